@@ -1,0 +1,4 @@
+// Offer curves: as submitted, checked, completed and read.
+pub mod curve;
+pub mod figures;
+pub mod points;

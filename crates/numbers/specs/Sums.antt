@@ -1,0 +1,8 @@
+-- Sums of signed numbers over a list.
+use mathlib.Core.List.{List}
+use lib.IntN.{ℤ, pos, _+ℤ_}
+use Rattle.std.specs.shelf.Lists.{folded}
+
+-- the sum of what f gives for each element
+abbrev pub signedSum : {X : Type 0} → (X → ℤ) → List X → ℤ
+signedSum f xs = folded (λ a x. a +ℤ f x) (pos 0) xs
