@@ -20,7 +20,7 @@ use Rattle.rounding.proofs.Laws.{nearest-within}
 use Rattle.curves.specs.declared.points.Point.{Point}
 use Rattle.curves.specs.declared.points.SubmittedCurve.{SubmittedCurve}
 use Rattle.curves.specs.Shape.{at, point}
-use Rattle.curves.specs.Reading.{line, beyond, reads}
+use Rattle.curves.specs.Reading.{line, beyond, reads, priceAt}
 use Rattle.curves.specs.Submission.{listed}
 use Rattle.curves.specs.Completion.{low-end, step-up, high-end, completed}
 use Rattle.curves.proofs.Soundness.{Sound}
@@ -52,6 +52,11 @@ reads-cheap (a ∷ ps) x cs =
     cond-both (leZ x (a .power)) (a .price) (beyond a ps x) (λ z. natAbs z ≤ 1000000)
     (λ e. cs .0)
     (λ e. beyond-cheap a ps x (cs .0) (cs .1) (grind (arith, ints)))
+
+-- and so is a price under a cap
+pub price-cheap : (ps : List Point) (cap x : ℤ) → All Cheap ps → pos 0 ≤ℤ cap → cap ≤ℤ pos 1000000 → natAbs (priceAt ps cap x) ≤ 1000000
+unfolding priceAt
+price-cheap ps cap x cheap free capped = let r = reads-cheap ps x cheap in omega (arith, ints, clamps)
 
 module _ (row : SubmittedCurve) (sound : Sound row) where
   some : 0 < row .count

@@ -1,9 +1,9 @@
 -- The nearest whole number to a quotient.
-use Prim.Native.Nat.{ℕ, _+_, _*_, _/_, _%_, _≤_}
+use Prim.Native.Nat.{ℕ, suc, _+_, _*_, _/_, _%_, _≤_}
 use mathlib.Core.Path.{_≡_}
 use mathlib.Core.Bool.{cond}
 use lib.Dec.{ltb}
-use lib.IntN.{ℤ, pos, negℤ, natAbs, _*ℤ_, _-ℤ_}
+use lib.IntN.{ℤ, pos, negsuc, negℤ, natAbs, _*ℤ_, _-ℤ_}
 use lib.Signed.{_≤ℤ_}
 use Rattle.numbers.specs.Signs.{signedBy}
 use Rattle.rounding.specs.Halves.{fromHalf, ByHalf}
@@ -15,6 +15,11 @@ nearestMagnitude n d = cond (ltb (2 * (n % d)) d) (n / d) (cond (ltb d (2 * (n %
 -- n / d: the magnitude to the nearest, and the sign put back
 unfoldable pub nearestTo : ℤ → ℕ → ℤ
 nearestTo n d = signedBy n (nearestMagnitude (natAbs n) d)
+
+-- n / d for a divisor of either sign
+abbrev pub nearestOver : ℤ → ℤ → ℤ
+nearestOver n (pos d) = nearestTo n d
+nearestOver n (negsuc d) = nearestTo (negℤ n) (suc d)
 
 -- r is the nearest whole number to n / d: within half a unit of it, and where exactly half a unit is between them, the one that the rule for halves names
 pub record Nearest (n : ℤ) (d : ℕ) (r : ℤ) : Type 0 where

@@ -1,0 +1,4 @@
+pub mod Weights
+pub mod Terms
+pub mod Ranges
+pub mod Limits
