@@ -4,4 +4,5 @@ pub mod Completion
 pub mod Acceptance
 pub mod Reading
 pub mod Curves
+pub mod Keys
 pub mod Figures

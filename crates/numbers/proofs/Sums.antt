@@ -1,10 +1,12 @@
 -- Sums of signed numbers: one element more, at either end.
-use Prim.Native.Nat.{ℕ, _+_, _<_}
+use Prim.Native.Nat.{ℕ, _+_, _<_, _≤_}
 use mathlib.Core.Path.{_≡_, refl, sym, ap, _∙_}
 use mathlib.Core.List.{List, [], _∷_, _++_}
+use native.Mathlib.Omega.{arith}
 use lib.IntN.{ℤ, pos, _+ℤ_, +ℤ-idl, +ℤ-idr, +ℤ-assoc}
-use lib.ListN.{length, getD, take}
+use lib.ListN.{length, getD, take, drop, take-append-drop}
 use Rattle.std.specs.shelf.Lists.{folded}
+use Rattle.std.proofs.shelf.Lists.{take-take, drop-take}
 use Rattle.std.proofs.shelf.Sums.{folded-more}
 use Rattle.numbers.specs.Sums.{signedSum}
 
@@ -30,3 +32,9 @@ module _ {X : Type 0} (f : X → ℤ) where
 
   pub signedSum-more : (xs : List X) (i : ℕ) (d : X) → i < length xs → signedSum f (take (i + 1) xs) ≡ signedSum f (take i xs) +ℤ f (getD xs i d)
   signedSum-more xs i d h = folded-more (λ a x. a +ℤ f x) (pos 0) xs i d h
+
+-- the first i + m are the first i and a run of m
+pub take-run : {X : Type 0} (xs : List X) (i m : ℕ) → take (i + m) xs ≡ take i xs ++ take m (drop i xs)
+take-run xs i m =
+    let h : i ≤ i + m = omega arith in
+    sym (take-append-drop i (take (i + m) xs)) ∙ ap (λ l. l ++ drop i (take (i + m) xs)) (take-take i (i + m) xs h) ∙ ap (λ l. take i xs ++ l) (drop-take i m xs)
