@@ -1,4 +1,4 @@
--- The fields of a line. What is left of a line while its fields are read is nothing, or a comma with the next field behind it.
+-- The fields of a line. While they are read, what is left of the line is nothing, or a comma with the next field behind it.
 use mathlib.Core.Bool.{Bool, true, false, cond, not}
 use mathlib.Core.List.{List, [], _∷_}
 use Prim.Native.Nat.{ℕ}
@@ -7,6 +7,7 @@ use Rattle.std.specs.declared.option.Option.{Option}
 use Rattle.std.specs.declared.option.Option.the-variants.{Some, None}
 use Rattle.text.specs.Text.{front, past, trimmed, cut}
 
+-- what separates fields
 abbrev pub comma : ℕ → Bool
 comma c = eqb c 44
 

@@ -13,6 +13,7 @@ use Rattle.text.specs.declared.fields.Fault.the-variants.{Malformed, Memory}
 use Rattle.text.specs.Text.{trimmed, cut, andThen}
 use Rattle.text.specs.Numbers.{numberIn}
 
+-- what separates the items of a list
 abbrev pub semicolon : ℕ → Bool
 semicolon c = eqb c 59
 
@@ -30,7 +31,8 @@ abbrev pub listIn : {A : Type 0} → (Bool → ℕ → Option A) → List ℕ �
 listIn kind [] = Some []
 listIn kind (c ∷ s) = numbersIn kind (map trimmed (cut semicolon (c ∷ s)))
 
--- A list was to be read behind what stood `before`, with room for so many numbers in all. `after` is what stands there then, and `size` how many: the numbers of the list follow; or there is no list, and the field is told; or the room was full.
+-- Numbers were to be read behind those `before`, with room for so many in all; `after` stand there then, as many as `size`.
+-- The numbers of the list follow; or there is no list, and the field is told; or the room was full.
 abbrev pub ListRead : {A X : Type 0} → Option (List A) → ℕ → ℕ → List A → List A → ℕ → Result X Fault → Type 0
 ListRead {A} list field room before after size (Ok _) = (xs : List A) × (list ≡ Some xs) × (after ≡ before ++ xs)
 ListRead list field room before after size (Err (Malformed k)) = (list ≡ None) × (k ≡ field)

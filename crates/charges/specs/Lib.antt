@@ -1,0 +1,14 @@
+pub mod Faults
+pub mod Lines
+pub mod Layers
+pub mod Rows
+pub mod Listed
+pub mod SourceLaws
+pub mod Table
+pub mod Refusals
+pub mod Settings
+pub mod Period
+pub mod Denial
+pub mod Adjustment
+pub mod LayerLaws
+pub mod Energy

@@ -1,0 +1,3 @@
+// The walk over a source's lines that a settlement makes.
+pub mod flaw;
+pub mod tally;
