@@ -1,0 +1,3 @@
+mod Loads
+mod Walks
+pub mod Firsts

@@ -1,0 +1,3 @@
+pub mod Settlements
+pub mod Steps
+pub mod Runs
