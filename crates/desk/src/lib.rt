@@ -5,6 +5,8 @@ ghost use Rattle.std.specs.Vec.{made};
 
 pub mod figures;
 pub mod lending;
+#[cfg(test)]
+mod tests;
 
 use assess::refusals::Refusal;
 use book::ledger::Book;
