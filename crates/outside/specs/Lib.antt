@@ -1,1 +1,2 @@
 pub mod Seasons
+pub mod Standby
