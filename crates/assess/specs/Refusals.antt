@@ -58,6 +58,7 @@ refusedFlaw t i flaws.ManyLines = ManyLines
 refusedFlaw t i (flaws.Faulty n f) = Faulty t i n f
 refusedFlaw t i (flaws.Unfit n) = Unfit n
 
+-- the same of a flaw with its slot
 abbrev pub refusalFor : SlotFlaw → Refusal
 refusalFor f = refusedFlaw (f .«charge_type») (f .interval) (f .flaw)
 
@@ -76,6 +77,7 @@ abbrev pub said : {X : Type 0} → Result X Refusal → Answer
 said (Ok x) = accepted
 said (Err e) = refused (numberOf e) (placeOf e) (carries e)
 
+-- of a balance
 abbrev pub saidBalance : Result ℤ Refusal → Answer
 saidBalance (Ok v) = balanceIs v
 saidBalance (Err e) = refused (numberOf e) (placeOf e) (carries e)

@@ -78,14 +78,17 @@ pub record ButSlots (b c : Book) : Type 0 where
   pub lent : name (c .slots) ≡ name (b .slots)
   pub many : length (c .slots .now) ≡ length (b .slots .now)
 
+-- The first n slots do not stand, and all else is as it was.
 pub record ClearsSlots (n : ℕ) (b c : Book) : Type 0 where
   pub rest : ButSlots b c
   pub rows : Cleared off 0 n (b .slots .now) (c .slots .now)
 
+-- n entries from a place on are zeros, and all else is as it was.
 pub record ClearsEntries (from n : ℕ) (b c : Book) : Type 0 where
   pub rest : ButEntries b c
   pub rows : Cleared blank from n (b .entries .now) (c .entries .now)
 
+-- The entries of one slot, from a place on, are these loads and amounts, and all else is as it was.
 pub record WritesRow (from : ℕ) (loads : List ℕ) (paid charged : List ℤ) (b c : Book) : Type 0 where
   pub rest : ButEntries b c
   pub rows : NowAt from (b .parties) (row loads paid charged) (b .entries .now) (c .entries .now)

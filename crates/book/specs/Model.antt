@@ -11,12 +11,15 @@ use Rattle.law.specs.Steps.{Call, settle, restate}
 use Rattle.book.specs.declared.rows.Slot.{Slot}
 use Rattle.book.specs.declared.rows.Entry.{Entry}
 
+-- A slot that does not stand.
 abbrev pub off : Slot
 off = record { stands = false }
 
+-- A slot that stands.
 abbrev pub on : Slot
 on = record { stands = true }
 
+-- An entry of zeros.
 abbrev pub blank : Entry
 blank = record { load = 0; paid = pos 0; charged = pos 0 }
 
@@ -24,12 +27,15 @@ blank = record { load = 0; paid = pos 0; charged = pos 0 }
 abbrev pub slotAt : ℕ → ℕ → ℕ → ℕ
 slotAt intervals t i = (t - 1) * intervals + (i - 1)
 
+-- Where a party's entry lies.
 abbrev pub entryAt : ℕ → ℕ → ℕ → ℕ → ℕ → ℕ
 entryAt parties intervals t i p = slotAt intervals t i * parties + (p - 1)
 
+-- An entry by the law's words.
 abbrev pub seen : Entry → words.Entries
 seen e = record { load = e .load; paid = e .paid; charged = e .charged }
 
+-- Two tables by the law's words: which slots stand, and what each keeps.
 abbrev pub means : ℕ → ℕ → List Slot → List Entry → words.Book
 means parties intervals slots entries = record {
   parties = parties;

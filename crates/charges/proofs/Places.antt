@@ -1,5 +1,5 @@
 -- Laws of a layer's table: where a resource is, and what a write to a place does.
-use mathlib.Core.Path.{_≡_, refl, sym, ap, _∙_, fun-ext}
+use mathlib.Core.Path.{_≡_, refl, sym, ap, subst, _∙_, fun-ext}
 use mathlib.Core.Bool.{Bool, true, false, cond}
 use mathlib.Core.List.{List, [], _∷_}
 use mathlib.Core.Logic.{_⊎_, inl, inr, ⊎-elim}
@@ -16,7 +16,7 @@ use Rattle.std.proofs.shelf.Sums.{sumBy-set, sumBy-cons, countBy-le-length}
 use Rattle.std.proofs.shelf.Tests.{eqb-true, eqb-false, eq-eqb, ne-eqb, cond-both, cases-bool, cases-lt, true≢false, lt-ltb, le-ltb, cases-eq}
 use Rattle.charges.specs.declared.figure.Figure.{Figure}
 use Rattle.charges.specs.Settings.{changed}
-use Rattle.charges.specs.Table.{hasNumber, firstAt, firstFigure, heldIn, heldCount, orZero, Once, Small, ownPlace, placeFor}
+use Rattle.charges.specs.Table.{hasNumber, firstAt, firstFigure, heldIn, heldCount, orZero, Once, Small, Known, ownPlace, placeFor}
 
 abbrev tick : Bool → ℕ
 tick b = cond b 1 0
@@ -194,6 +194,10 @@ wrote-map {rows} {after} {r} {n} {o} w low (suc k) =
 pub wrote-small : {rows after : List Figure} {r n : ℕ} {o : Option ℤ} → Wrote rows after r o n → 1 ≤ r → natAbs (orZero o) ≤ 1000000000 → Small rows → Small after
 wrote-small {rows} {r = r} {o = o} w low h own k =
     rw (wrote-map w low k) (cond-both (eqb k r) o (heldIn rows k) (λ p. natAbs (orZero p) ≤ 1000000000) (λ _. h) (λ _. own k))
+
+pub wrote-known : {rows after : List Figure} {r n : ℕ} {o : Option ℤ} → Wrote rows after r o n → 1 ≤ r → (isSome o ≡ true → r ≤ 9999) → Known rows → Known after
+wrote-known {rows} {r = r} {o = o} w low h own k some =
+    cond-both (eqb k r) o (heldIn rows k) (λ p. isSome p ≡ true → k ≤ 9999) (λ t s. omega (arith, h s, eqb-true k r t)) (λ _. own k) (subst (λ p. isSome p ≡ true) (wrote-map w low k) some)
 
 -- what the place of its own tells
 pub own-low : (rows : List Figure) (r i : ℕ) → i ≡ ownPlace rows r → i < 32 → 1 ≤ r

@@ -68,10 +68,11 @@ WasSet before after r f answer =
     Cases answer (λ _. Passed (checks before r f) × Holds after (changed (heldBy before) r (Some f)) (sizeSet before r))
     (λ refusal. Refused (checks before r f) (numberOf refusal) (placeOf refusal) × (after ≡ before))
 
--- r is held no more, and each other resource has what it had; where r was not held, nothing is altered
+-- r is held no more, and each other resource has what it had; where r was not held, or is no resource's number, nothing is altered
 pub record WasRemoved (before after : Table) (r : ℕ) : Type 0 where
   pub holds : Holds after (changed (heldBy before) r None) (sizeRemoved before r)
   pub kept : heldBy before r ≡ None → after ≡ before
+  pub outside : (r < 1) ⊎ (9999 < r) → after ≡ before
 
 -- what a refused call leaves equal
 abbrev pub KeptOnRefusal : {X : Type 0} → Result (Unit {0}) SettingRefusal → X → X → Type 0

@@ -1,10 +1,12 @@
 -- What the places of a layer's table hold.
-use mathlib.Core.Bool.{Bool, cond, not}
+use mathlib.Core.Path.{_≡_}
+use mathlib.Core.Bool.{Bool, true, cond, not}
 use mathlib.Core.List.{List, [], _∷_}
 use Prim.Native.Nat.{ℕ, _≤_}
 use lib.Dec.{ltb, eqb}
 use lib.IntN.{ℤ, pos, natAbs}
 use Rattle.std.specs.shelf.Lists.{countBy, leading}
+use Rattle.std.specs.Options.{isSome}
 use Rattle.std.specs.declared.option.Option.{Option}
 use Rattle.std.specs.declared.option.Option.the-variants.{Some, None}
 use Rattle.charges.specs.declared.figure.Figure.{Figure}
@@ -38,6 +40,10 @@ Once rows = (r : ℕ) → 1 ≤ r → countBy (hasNumber r) rows ≤ 1
 -- each figure is in range
 abbrev pub Small : List Figure → Type 0
 Small rows = (r : ℕ) → natAbs (orZero (heldIn rows r)) ≤ 1000000000
+
+-- what is held is a resource's number
+abbrev pub Known : List Figure → Type 0
+Known rows = (r : ℕ) → isSome (heldIn rows r) ≡ true → r ≤ 9999
 
 -- the first place with the number, or the number of places
 abbrev pub firstAt : List Figure → ℕ → ℕ

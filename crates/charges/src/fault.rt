@@ -60,6 +60,7 @@ impl Layer {
     }
 }
 
+// A fault tells its cause and where it arose.
 #[derive(Clone, Copy, PartialEq, Eq, Debug)]
 pub struct Fault {
     pub cause: Cause,

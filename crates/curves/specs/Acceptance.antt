@@ -10,17 +10,19 @@ use Rattle.curves.specs.declared.points.SubmittedCurve.{SubmittedCurve}
 use Rattle.curves.specs.Shape.{at}
 use Rattle.curves.specs.Submission.{listed}
 
--- a power or a price within its range
+-- a power within its range
 abbrev pub powerIn : ℤ → Bool
 powerIn x = leZ (negsuc 1999999) x && leZ x (pos 2000000)
 
+-- a price within its range
 abbrev pub priceIn : ℤ → Bool
 priceIn y = leZ (negsuc 24999) y && leZ y (pos 1000000)
 
--- of the k-th point: inside, and after the first one above the power before, or not below the price before
+-- the k-th power: inside, and above the one before
 abbrev pub powerFits : List Point → ℕ → Bool
 powerFits ps k = powerIn (at ps k .power) && (leb k 0 || ltZ (at ps (k - 1) .power) (at ps k .power))
 
+-- the k-th price: inside, and not below the one before
 abbrev pub priceFits : List Point → ℕ → Bool
 priceFits ps k = priceIn (at ps k .price) && (leb k 0 || leZ (at ps (k - 1) .price) (at ps k .price))
 

@@ -4,5 +4,6 @@ use lib.ListN.{take}
 use Rattle.curves.specs.declared.curve.Curve.{Curve}
 use Rattle.curves.specs.declared.points.Point.{Point}
 
+-- the points that count
 abbrev pub pointsOf : Curve → List Point
 pointsOf c = take (c .count) (c .points)

@@ -15,17 +15,19 @@ use Rattle.curves.specs.Shape.{at}
 abbrev pub listed : SubmittedCurve → List Point
 listed row = take (row .count) (row .points)
 
--- a power in kW and a price in cents per MWh within their ranges
+-- a power in kW within its range
 abbrev pub PowerIn : ℤ → Type 0
 PowerIn x = (negsuc 1999999 ≤ℤ x) × (x ≤ℤ pos 2000000)
 
+-- a price in cents per MWh within its range
 abbrev pub PriceIn : ℤ → Type 0
 PriceIn y = (negsuc 24999 ≤ℤ y) × (y ≤ℤ pos 1000000)
 
--- the k-th power is inside and above the one before; the k-th price is inside and not below the one before
+-- the k-th power is inside and above the one before
 abbrev pub GoodPower : List Point → ℕ → Type 0
 GoodPower ps k = PowerIn (at ps k .power) × (0 < k → at ps (k - 1) .power <ℤ at ps k .power)
 
+-- the k-th price is inside and not below the one before
 abbrev pub GoodPrice : List Point → ℕ → Type 0
 GoodPrice ps k = PriceIn (at ps k .price) × (0 < k → at ps (k - 1) .price ≤ℤ at ps k .price)
 
@@ -46,13 +48,14 @@ checks row =
     ∷ whole 24 (GoodLimits row)
     ∷ []
 
--- the number and the place of a refusal
+-- the number of a refusal
 abbrev pub numberOf : CurveRefusal → ℕ
 numberOf Count = 21
 numberOf (Power place) = 22
 numberOf (Price place) = 23
 numberOf Limits = 24
 
+-- the place of a refusal
 abbrev pub placeOf : CurveRefusal → ℕ
 placeOf Count = 0
 placeOf (Power place) = place

@@ -27,6 +27,7 @@ two-slices spp = record {
   cap = pos 900000;
 }
 
+-- its slices' seconds
 abbrev pub seconds : List ℕ
 seconds = 600 ∷ 300 ∷ []
 
@@ -38,6 +39,7 @@ k-slices = sliced (completed (k-row (pos 50000))) (pos 900000) seconds (two-slic
 abbrev pub drawing : List Slice
 drawing = slice 900 (negsuc 19999) (pos 3000) ∷ []
 
+-- the figures
 pub record Figures : Type 0 where
   pub mean : meanPrice Above k-slices ≡ pos 3429
   pub energy : discharged 30000 k-slices ≡ pos 29167

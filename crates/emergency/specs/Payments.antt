@@ -20,6 +20,7 @@ use Rattle.emergency.specs.declared.slices.Side.the-variants.{Above, Below}
 use Rattle.emergency.specs.Energy.{meanPrice, discharged, charged, amount, basis}
 use Rattle.emergency.specs.Fields.{badField}
 
+-- a slice of its seconds, base point and price
 abbrev pub slice : ℕ → ℤ → ℤ → Slice
 slice seconds base price = record { seconds = seconds; base = base; price = price }
 

@@ -18,6 +18,7 @@ pub record Met : Type 0 where
   pub call : Call
   pub got : Answer
 
+-- The call was accepted and changed what stands.
 abbrev pub took : Answer → Bool
 took accepted = true
 took (refused number place carried) = false
@@ -65,6 +66,7 @@ due p (Some s) = sourceLines s p +ℤ chargeOf s p
 abbrev pub owed : ℕ → List Met → ℕ → ℤ
 owed intervals met p = overSlots intervals (λ t i. due p (standing met t i))
 
+-- 1 where a settlement stands.
 abbrev pub oneIf : Option Settlement → ℤ
 oneIf None = pos 0
 oneIf (Some s) = pos 1
@@ -88,6 +90,7 @@ pub data Plain : Type 0 where
   asks : (party : ℕ) → Plain
   looks : (type interval party : ℕ) → Plain
 
+-- A call without its sharing rule.
 abbrev pub plain : Call → Plain
 plain (settle t i s) = settles t i (s .loads) (s .lines)
 plain (restate t i s) = restates t i (s .loads) (s .lines)
@@ -101,6 +104,7 @@ pub data Verdict : Type 0 where
   refuses : (number place : ℕ) → Option Carried → Verdict
   answers : Verdict
 
+-- An answer without its amounts.
 abbrev pub verdict : Answer → Verdict
 verdict accepted = accepts
 verdict (refused number place carried) = refuses number place carried
@@ -121,6 +125,7 @@ pub record Alike (parties intervals : ℕ) (met : List Met) (b : Book) (met′ :
   pub same-verdicts : map (λ m. verdict (m .got)) met ≡ map (λ m. verdict (m .got)) met′
   pub near : (p : ℕ) → Among p parties → pos (apart (balanceTold (answer b (balance p))) (balanceTold (answer b′ (balance p)))) ≤ℤ howMany intervals met
 
+-- The law of a book after a list of calls: its three parts.
 pub record Law (parties intervals : ℕ) (met : List Met) (b : Book) : Type 0 where
   pub balanced : Balanced parties intervals met b
   pub cents : WithinACent parties met b

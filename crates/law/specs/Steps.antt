@@ -54,6 +54,7 @@ abbrev pub both : Finding → Finding → Finding
 both clear next = next
 both (raises number place carried) next = raises number place carried
 
+-- What the first check of a list finds that finds anything.
 abbrev pub first : List Finding → Finding
 first [] = clear
 first (c ∷ cs) = both c (first cs)
@@ -90,10 +91,11 @@ checks parties intervals stands wanted t i loads lines =
     ∷ holdsOr (cond (ltb 0 (sum loads)) true (eqb (natAbs (totalOf lines)) 0)) 38 0
     ∷ []
 
--- The checks of void, and of entry.
+-- The checks of void.
 abbrev pub voidChecks : (intervals : ℕ) (stands : Bool) (t i : ℕ) → List Finding
 voidChecks intervals stands t i = holdsOr (among t 3 && among i intervals) 31 0 ∷ holdsOr stands 33 0 ∷ []
 
+-- The checks of entry.
 abbrev pub entryChecks : (parties intervals t i p : ℕ) → List Finding
 entryChecks parties intervals t i p = holdsOr (among t 3 && among i intervals) 31 0 ∷ holdsOr (among p parties) 39 0 ∷ []
 
@@ -114,10 +116,12 @@ abbrev pub told : Finding → Answer
 told clear = accepted
 told (raises number place carried) = refused number place carried
 
+-- The same of a balance.
 abbrev pub toldBalance : Finding → ℤ → Answer
 toldBalance clear v = balanceIs v
 toldBalance (raises number place carried) v = refused number place carried
 
+-- The same of an entry.
 abbrev pub toldEntry : Finding → Bool → Entries → Answer
 toldEntry clear stands e = entryIs stands e
 toldEntry (raises number place carried) stands e = refused number place carried

@@ -5,6 +5,7 @@ use lib.IntN.{pos, negsuc}
 use Rattle.sharing.specs.Running.{running}
 use Rattle.sharing.specs.Leftover.{leftover}
 
+-- by running and by leftover
 pub record Figures : Type 0 where
   pub thirds-running : running (pos 100) (7 ∷ 7 ∷ 7 ∷ []) ≡ pos 33 ∷ pos 33 ∷ pos 34 ∷ []
   pub thirds-leftover : leftover (pos 100) (7 ∷ 7 ∷ 7 ∷ []) ≡ pos 34 ∷ pos 33 ∷ pos 33 ∷ []

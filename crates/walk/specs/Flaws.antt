@@ -53,6 +53,7 @@ abbrev pub answering : Option Flaw → ℤ → Result ℤ Flaw
 answering (Some flaw) total = Err flaw
 answering None total = Ok total
 
+-- what a walk over the lines of a source answers
 abbrev pub walked : ℕ → List Line → Result ℤ Flaw
 walked parties ls = answering (flawOf parties ls) (totalOf ls)
 

@@ -12,7 +12,7 @@ use Rattle.std.specs.declared.option.Option.the-variants.{Some}
 use Rattle.charges.specs.Refusals.{InRange}
 use Rattle.charges.specs.Settings.{changed, heldBy}
 use Rattle.charges.specs.declared.figure.Figure.{Figure}
-use Rattle.charges.proofs.Places.{set-wrote, set-full, wrote-map, wrote-small}
+use Rattle.charges.proofs.Places.{set-wrote, set-full, wrote-map, wrote-small, wrote-known}
 use Rattle.charges.proofs.table.Table.set.Needs as need
 
 -- what the test told, clear of the figure's bits
@@ -27,7 +27,7 @@ ghost-self c =
     let x : Figure = record { resource = r; figure = toZ w64 (ofZ w64 (c .args .figure)) } in
     let ok = good (c .args .resource) (c .args .figure) (c .fits .figure) (c .if-not-is-in-range .ensures tt) in
     let w = set-wrote (t .rows) r at (t .many) (ok .0) (c .place-for-place .ensures) x (c .if-place-lt32 .taken) (t .once) refl .0 in
-    (length-set (t .rows) at x ∙ t .many, (w .once, (wrote-small w (ok .0) (subst (λ z. natAbs z ≤ 1000000000) (sym (toZ-ofZ w64 (c .args .figure) (c .fits .figure))) (ok .2)) (t .small), tt)))
+    (length-set (t .rows) at x ∙ t .many, (w .once, (wrote-small w (ok .0) (subst (λ z. natAbs z ≤ 1000000000) (sym (toZ-ofZ w64 (c .args .figure) (c .fits .figure))) (ok .2)) (t .small), (wrote-known w (ok .0) (λ _. ok .1) (t .known), tt))))
 
 pub returns-then-place-lt32 : need.returns-then-place-lt32
 returns-then-place-lt32 c =
