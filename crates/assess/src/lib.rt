@@ -1,4 +1,6 @@
 // What settling a slot checks and works out, before anything is written.
+#![tactic(auto)]
+
 pub mod assessing;
 pub mod checks;
 pub mod refusals;

@@ -1,4 +1,6 @@
 // What the market pays: the lines of charge sources, and layers that change their amounts.
+#![tactic(auto)]
+
 pub mod adjustment;
 pub mod denial;
 pub mod energy;

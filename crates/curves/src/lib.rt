@@ -1,4 +1,6 @@
 // Offer curves: as submitted, checked, completed and read.
+#![tactic(auto)]
+
 pub mod curve;
 pub mod figures;
 pub mod keys;

@@ -1,4 +1,6 @@
 // A day's text: its records are read, and its emergency rows priced step by step.
+#![tactic(auto)]
+
 pub mod day;
 pub mod held;
 pub mod names;

@@ -1,4 +1,6 @@
 // Callers of the book, proved from its contracts alone.
+#![tactic(auto)]
+
 ghost use Rattle.std.specs.Prelude.{◌≡◌, pos, ◌+ℤ◌, IfOk};
 
 pub mod figures;

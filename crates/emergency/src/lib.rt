@@ -1,4 +1,6 @@
 // The emergency energy payment of a resource in a quarter hour.
+#![tactic(auto)]
+
 mod fields;
 pub mod figures;
 pub mod payment;

@@ -1,4 +1,6 @@
 // Whole numbers as the settlement uses them: products that fit and magnitudes with a sign. Nothing here rounds.
+#![tactic(auto)]
+
 ghost use Rattle.std.specs.Prelude.{◌≡◌, ◌≤◌, pos, ◌*ℤ◌, unsigned_abs};
 ghost use Rattle.numbers.specs.Signs.{signed_by};
 

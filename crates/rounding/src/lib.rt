@@ -1,4 +1,6 @@
 // Rounding to the nearest whole number, and nothing else.
+#![tactic(auto)]
+
 ghost use Rattle.std.specs.Prelude.{◌≡◌, ◌<◌};
 ghost use Rattle.rounding.specs.Nearest.{nearest_magnitude, nearest_to, Nearest, Pinned, Lawful};
 

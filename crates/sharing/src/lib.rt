@@ -1,4 +1,6 @@
 // Totals shared over loads, to the cent.
+#![tactic(auto)]
+
 pub mod figures;
 pub mod leftover;
 pub mod loads;

@@ -1,5 +1,7 @@
 // Prices the emergency rows of a day and tells each step: uplift [FILE], or - for the standard input; without a file, the
 // sample day.
+#![tactic(auto)]
+
 use day::report::{Tally, report};
 use day::sample::SAMPLE;
 use std::io::{Read, Write};

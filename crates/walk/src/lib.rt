@@ -1,3 +1,5 @@
 // The walk over a source's lines that a settlement makes.
+#![tactic(auto)]
+
 pub mod flaw;
 pub mod tally;
