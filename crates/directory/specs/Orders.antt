@@ -3,7 +3,7 @@ use Rattle.std.specs.Prelude.{◌≡◌, ℕ, List}
 use Rattle.std.specs.declared.cmp.Ordering.TheVariants.{Less, Equal}
 use Rattle.std.specs.declared.cmp.Ordering.{Ordering}
 use Rattle.std.proofs.Common.{ap}
-use Rattle.std.specs.Cmp.{IsTotalOrder, nat_cmp_total, pairs}
+use Rattle.std.specs.Cmp.{IsTotalOrder, nat_cmp_total, on_total, then_total}
 use Rattle.std.specs.Ordering.{ordering_reverse}
 use Rattle.directory.specs.Sameness.{number_same, text_same, pair_same}
 use Rattle.std.specs.Cmp.Lexicographic.{lists_total}
@@ -16,8 +16,8 @@ pub record Order (K : Type 0) : Type 0 where
   pub same : (x y : K) → cmp x y ≡ Equal → x ≡ y
 
 -- a comparison as an order, where it finds only the same keys equal
-abbrev pub ordered : {K : Type 0} {R : K → K → Ordering → Type 0} (o : IsTotalOrder R) → ((x y : K) → R x y ≡ Equal → x ≡ y) → Order K
-ordered o same = record { cmp = o.cmp; flip = o.antisymm; trans = o.trans; same = same }
+abbrev pub ordered : {K : Type 0} {R : K → K → Ordering} (o : IsTotalOrder R) → ((x y : K) → R x y ≡ Equal → x ≡ y) → Order K
+ordered {K} {R} o same = record { cmp = R; flip = o.antisymm; trans = o.trans; same = same }
 
 -- numbers by size
 abbrev pub by_size : Order ℕ
@@ -28,9 +28,9 @@ abbrev pub by_bytes : Order (List ℕ)
 by_bytes = ordered (lists_total nat_cmp_total) text_same
 
 -- an order as a comparison
-abbrev pub compared : {K : Type 0} (o : Order K) → IsTotalOrder (λ (x y : K) (r : Ordering). r ≡ o.cmp x y)
-compared o = record { cmp = o.cmp; says = λ x y r e. e; flip = o.flip; trans = o.trans; alike = λ x y z e. ap (λ k. o.cmp k z) (o.same x y e) }
+abbrev pub compared : {K : Type 0} (o : Order K) → IsTotalOrder o.cmp
+compared o = record { antisymm = o.flip; trans = o.trans; congr = λ x y z e. ap (λ k. o.cmp k z) (o.same x y e) }
 
 -- pairs by their first parts, and where these are the same by their second
 abbrev pub in_turn : {A B : Type 0} → Order A → Order B → Order (A × B)
-in_turn a b = ordered (pairs (compared a) (compared b)) (pair_same a.cmp b.cmp a.same b.same)
+in_turn {A} {B} a b = ordered (then_total (on_total (λ (p : A × B). p.0) (compared a)) (on_total (λ (p : A × B). p.1) (compared b))) (pair_same a.cmp b.cmp a.same b.same)

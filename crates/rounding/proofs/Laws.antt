@@ -5,8 +5,7 @@ use lib.IntN.{neg_ℤ-neg_ℤ}
 use lib.Signed.{≤ℤ_refl}
 use Rattle.std.proofs.lemmas.Int.{by_lt_z}
 use Rattle.numbers.specs.Signs.{signed_by}
-use Rattle.numbers.proofs.Integers.{neg_scaled, scaled_lt, signed_gap, signed_self}
-use Rattle.rounding.specs.Halves.{from_half, ByHalf}
+use Rattle.numbers.proofs.Integers.{neg_scaled, scaled_lt}
 use Rattle.rounding.specs.Nearest.{nearest_magnitude, nearest_to, Nearest, Lawful}
 use Rattle.rounding.proofs.HalfLaws.{half_named, half_one}
 use Rattle.rounding.proofs.Magnitudes.{level, near, half_only, magnitude_zero}

@@ -1,5 +1,5 @@
 -- The nearest magnitude by its three ways, wherever a half goes.
-use Rattle.std.proofs.Common.{◌≡◌, ℕ, ◌+◌, ◌-◌, ◌*◌, ◌/◌, ◌%◌, ◌<◌, ◌≤◌, true, false, ltb, ◌⊎◌, sym, subst, inl, inr, ⊎_elim, mul-le-mul_right, mod-lt, add-mul, lt_of_mul-lt-mul_right, div-add-mod', le-mul_of_pos_right, arith}
+use Rattle.std.proofs.Common.{◌≡◌, ℕ, ◌+◌, ◌-◌, ◌*◌, ◌/◌, ◌%◌, ◌<◌, ◌≤◌, sym, subst, ⊎_elim, mul-le-mul_right, mod-lt, add-mul, lt_of_mul-lt-mul_right, div-add-mod', le-mul_of_pos_right, arith}
 use Rattle.std.proofs.lemmas.Bool.{cases_order, lt-ltb, le-ltb}
 use Rattle.rounding.specs.Halves.{from_half}
 use Rattle.rounding.specs.Nearest.{nearest_magnitude}

@@ -1,5 +1,5 @@
 -- The limits of what a rule is asked.
-use Rattle.std.proofs.Common.{ℕ, ◌+◌, ◌*◌, ◌<◌, ◌≤◌, List, length, get_or, take, ℤ, pos, ◌-ℤ◌, ◌*ℤ◌, nat_abs, sum, add-mul, lt_of_mul-lt-mul_right, mul-le-mul_left, arith}
+use Rattle.std.proofs.Common.{ℕ, ◌+◌, ◌<◌, ◌≤◌, List, length, get_or, take, ℤ, pos, nat_abs, sum, add-mul, lt_of_mul-lt-mul_right, mul-le-mul_left, arith}
 use borrow.Author.Differences.{ints}
 use Rattle.std.proofs.lemmas.List.Sums.{sum_by-take-le, get_or-le-sum_by}
 use Rattle.std.proofs.ByRecursion.{sum_by_le}

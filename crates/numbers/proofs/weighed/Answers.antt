@@ -1,5 +1,5 @@
-use Rattle.std.proofs.Common.{◌≡◌, ℕ, ◌+◌, ◌*◌, ◌^◌, ◌<◌, ◌≤◌, ℤ, pos, ◌*ℤ◌, nat_abs, sym, ap, ◌∙◌, mul-le-mul, arith, w32, w64, Fits, SFits, to_z, of_z}
-use borrow.Author.Differences.{ints, up, down}
+use Rattle.std.proofs.Common.{◌≡◌, ℕ, ◌^◌, ◌<◌, ◌≤◌, ℤ, pos, ◌*ℤ◌, nat_abs, ap, ◌∙◌, mul-le-mul, arith, w32, w64, Fits, SFits, to_z, of_z}
+use borrow.Author.Differences.{ints}
 use Rattle.std.proofs.lemmas.Int.{to_z-of_z, to_z_pos}
 use Rattle.numbers.proofs.Integers.{abs_scaled}
 use Rattle.numbers.proofs.weighed.Goals as goal
@@ -18,8 +18,8 @@ fits p n f g =
     let b : n ≤ 4294967295 = omega arith in
     omega (arith, ints, abs_scaled p n, mul-le-mul a b)
 
-pub overflow-mul-result : goal.overflow-mul-result
-overflow-mul-result c = rw (plain c.args.figure c.args.weight c.ranges.figure c.ranges.weight) (fits c.args.figure c.args.weight c.ranges.figure c.ranges.weight)
+pub overflow_mul-result : goal.overflow_mul-result
+overflow_mul-result c = rw (plain c.args.figure c.args.weight c.ranges.figure c.ranges.weight) (fits c.args.figure c.args.weight c.ranges.figure c.ranges.weight)
 
 pub returns : goal.returns
 returns c =

@@ -1,4 +1,4 @@
-use Rattle.std.proofs.Common.{◌≡◌, ◌<◌, ◌≤◌, pos, ◌≤ℤ◌, ◌<ℤ◌, arith}
+use Rattle.std.proofs.Common.{◌≡◌, pos, ◌≤ℤ◌, ◌<ℤ◌, arith}
 use borrow.Author.Differences.{ints}
 use Rattle.numbers.proofs.Integers.{signed_neg, signed_pos, signed_zero}
 use Rattle.numbers.proofs.with_sign.Goals as goal

@@ -6,13 +6,13 @@ use Rattle.rounding.proofs.Magnitudes.{magnitude_le}
 use Rattle.rounding.proofs.Laws.{nearest_is, nearest_only, nearest_lawful}
 use Rattle.rounding.proofs.nearest.Goals as goal
 
-pub with-sign-requires : goal.with-sign-requires
-with-sign-requires c = grind (arith, ints, magnitude_le)
+pub with_sign-requires : goal.with_sign-requires
+with_sign-requires c = grind (arith, ints, magnitude_le)
 
 pub returns : goal.returns
 unfolding nearest_to
 returns c =
-    let e : to_z w64 (of_z w64 c.with-sign.result) ≡ nearest_to c.args.n c.args.d = grind (arith, to_z-of_z) in
+    let e : to_z w64 (of_z w64 c.with_sign.result) ≡ nearest_to c.args.n c.args.d = grind (arith, to_z-of_z) in
     record {
       value = e;
       means = rw e (nearest_is c.args.n c.args.d c.requires);

@@ -13,6 +13,6 @@ returns-then-load-eq0 g c k h =
 pub returns : goal.returns
 returns g c k h =
     let some : ltb 0 (sum c.args.loads.now) ≡ true = lt-ltb 0 (sum c.args.loads.now) (omega arith) in
-    let e : c.share-out.new.shares ≡ g.R.SharingRule.meaning c.args.rule.now (neg_ℤ c.args.total) c.args.loads.now = search rules in
-    let long : k < length c.share-out.new.shares = omega (arith, c.share-out.ensures.fair.count, h) in
-    rw some (get_or_append_left c.share-out.new.shares _ (pos 0) k long ∙ ap (λ l. get_or l k (pos 0)) e)
+    let e : c.share_out.new.shares ≡ g.R.SharingRule.meaning c.args.rule.now (neg_ℤ c.args.total) c.args.loads.now = search rules in
+    let long : k < length c.share_out.new.shares = omega (arith, c.share_out.ensures.fair.count, h) in
+    rw some (get_or_append_left c.share_out.new.shares _ (pos 0) k long ∙ ap (λ l. get_or l k (pos 0)) e)

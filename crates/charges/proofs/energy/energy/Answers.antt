@@ -16,8 +16,8 @@ returns-then-count-gt256 g c = record {
   once = one_answer (checks (g.S.LineSource.lines c.args.source.now));
 }
 
-pub overflow-add-kwh : goal.overflow-add-kwh
-overflow-add-kwh g c = let h = low g c in omega (arith, c.loop-i.invariant.1)
+pub overflow_add-kwh : goal.overflow_add-kwh
+overflow_add-kwh g c = let h = low g c in omega (arith, c.loop-i.invariant.1)
 
 pub loop-i-preserved : goal.loop-i-preserved
 loop-i-preserved g c =

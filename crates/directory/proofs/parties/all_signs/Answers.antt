@@ -10,7 +10,7 @@ loop-b-preserved c =
     let more = fold_more (λ a b. a && is_sign b) true c.args.text.now c.loop-b.b-index 0 c.loop-b-test.true in
     rw (more, ← c.loop-b.invariant)
     (elim c.if-all.branch [
-      | then-all w ↦ rw w.if-all.true (w.all-is ∙ w.is-sign-all.ensures)
+      | then-all w ↦ rw w.if-all.true (w.all-is ∙ w.is_sign-all.ensures)
       | else-all w ↦ rw w.if-all.false (w.all-is ∙ w.if-all.false)
     ])
 

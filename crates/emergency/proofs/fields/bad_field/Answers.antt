@@ -10,34 +10,34 @@ passed t r k n m e f h = rw (← e, f) h
 failed : (t r : Bool) (k n : ℕ) → r ≡ t → r ≡ true → k ≡ cond t k n
 failed t r k n e f = rw (← e, f)
 
-pub returns-then-resource-outside : goal.returns-then-resource-outside
+pub returns-then-resource_outside : goal.returns-then-resource_outside
 unfolding bad_field
-returns-then-resource-outside c = failed _ c.resource-outside.result 1 _ c.resource-outside.ensures c.if-resource-outside.true
+returns-then-resource_outside c = failed _ c.resource_outside.result 1 _ c.resource_outside.ensures c.if-resource_outside.true
 
-pub returns-then-spp-outside : goal.returns-then-spp-outside
+pub returns-then-spp_outside : goal.returns-then-spp_outside
 unfolding bad_field
-returns-then-spp-outside c = passed _ c.resource-outside.result 1 _ _ c.resource-outside.ensures c.if-resource-outside.false (failed _ c.spp-outside.result 2 _ c.spp-outside.ensures c.if-spp-outside.true)
+returns-then-spp_outside c = passed _ c.resource_outside.result 1 _ _ c.resource_outside.ensures c.if-resource_outside.false (failed _ c.spp_outside.result 2 _ c.spp_outside.ensures c.if-spp_outside.true)
 
-pub returns-then-generation-outside : goal.returns-then-generation-outside
+pub returns-then-generation_outside : goal.returns-then-generation_outside
 unfolding bad_field
-returns-then-generation-outside c = passed _ c.resource-outside.result 1 _ _ c.resource-outside.ensures c.if-resource-outside.false (passed _ c.spp-outside.result 2 _ _ c.spp-outside.ensures c.if-spp-outside.false (failed _ c.generation-outside.result 3 _ c.generation-outside.ensures c.if-generation-outside.true))
+returns-then-generation_outside c = passed _ c.resource_outside.result 1 _ _ c.resource_outside.ensures c.if-resource_outside.false (passed _ c.spp_outside.result 2 _ _ c.spp_outside.ensures c.if-spp_outside.false (failed _ c.generation_outside.result 3 _ c.generation_outside.ensures c.if-generation_outside.true))
 
-pub returns-then-charging-outside : goal.returns-then-charging-outside
+pub returns-then-charging_outside : goal.returns-then-charging_outside
 unfolding bad_field
-returns-then-charging-outside c = passed _ c.resource-outside.result 1 _ _ c.resource-outside.ensures c.if-resource-outside.false (passed _ c.spp-outside.result 2 _ _ c.spp-outside.ensures c.if-spp-outside.false (passed _ c.generation-outside.result 3 _ _ c.generation-outside.ensures c.if-generation-outside.false (failed _ c.charging-outside.result 4 _ c.charging-outside.ensures c.if-charging-outside.true)))
+returns-then-charging_outside c = passed _ c.resource_outside.result 1 _ _ c.resource_outside.ensures c.if-resource_outside.false (passed _ c.spp_outside.result 2 _ _ c.spp_outside.ensures c.if-spp_outside.false (passed _ c.generation_outside.result 3 _ _ c.generation_outside.ensures c.if-generation_outside.false (failed _ c.charging_outside.result 4 _ c.charging_outside.ensures c.if-charging_outside.true)))
 
 pub returns-then-strays : goal.returns-then-strays
 unfolding bad_field
-returns-then-strays c = passed _ c.resource-outside.result 1 _ _ c.resource-outside.ensures c.if-resource-outside.false (passed _ c.spp-outside.result 2 _ _ c.spp-outside.ensures c.if-spp-outside.false (passed _ c.generation-outside.result 3 _ _ c.generation-outside.ensures c.if-generation-outside.false (passed _ c.charging-outside.result 4 _ _ c.charging-outside.ensures c.if-charging-outside.false (failed _ c.strays.result 5 _ (c.strays.ensures ∙ ap (λ m. strays (take m c.args.row.now.bases)) (sub-zero c.args.slices)) c.if-strays.true))))
+returns-then-strays c = passed _ c.resource_outside.result 1 _ _ c.resource_outside.ensures c.if-resource_outside.false (passed _ c.spp_outside.result 2 _ _ c.spp_outside.ensures c.if-spp_outside.false (passed _ c.generation_outside.result 3 _ _ c.generation_outside.ensures c.if-generation_outside.false (passed _ c.charging_outside.result 4 _ _ c.charging_outside.ensures c.if-charging_outside.false (failed _ c.strays.result 5 _ (c.strays.ensures ∙ ap (λ m. strays (take m c.args.row.now.bases)) (sub-zero c.args.slices)) c.if-strays.true))))
 
-pub returns-then-hour-outside : goal.returns-then-hour-outside
+pub returns-then-hour_outside : goal.returns-then-hour_outside
 unfolding bad_field
-returns-then-hour-outside c = passed _ c.resource-outside.result 1 _ _ c.resource-outside.ensures c.if-resource-outside.false (passed _ c.spp-outside.result 2 _ _ c.spp-outside.ensures c.if-spp-outside.false (passed _ c.generation-outside.result 3 _ _ c.generation-outside.ensures c.if-generation-outside.false (passed _ c.charging-outside.result 4 _ _ c.charging-outside.ensures c.if-charging-outside.false (passed _ c.strays.result 5 _ _ (c.strays.ensures ∙ ap (λ m. strays (take m c.args.row.now.bases)) (sub-zero c.args.slices)) c.if-strays.false (failed _ c.hour-outside.result 6 _ c.hour-outside.ensures c.if-hour-outside.true)))))
+returns-then-hour_outside c = passed _ c.resource_outside.result 1 _ _ c.resource_outside.ensures c.if-resource_outside.false (passed _ c.spp_outside.result 2 _ _ c.spp_outside.ensures c.if-spp_outside.false (passed _ c.generation_outside.result 3 _ _ c.generation_outside.ensures c.if-generation_outside.false (passed _ c.charging_outside.result 4 _ _ c.charging_outside.ensures c.if-charging_outside.false (passed _ c.strays.result 5 _ _ (c.strays.ensures ∙ ap (λ m. strays (take m c.args.row.now.bases)) (sub-zero c.args.slices)) c.if-strays.false (failed _ c.hour_outside.result 6 _ c.hour_outside.ensures c.if-hour_outside.true)))))
 
-pub returns-then-cap-outside : goal.returns-then-cap-outside
+pub returns-then-cap_outside : goal.returns-then-cap_outside
 unfolding bad_field
-returns-then-cap-outside c = passed _ c.resource-outside.result 1 _ _ c.resource-outside.ensures c.if-resource-outside.false (passed _ c.spp-outside.result 2 _ _ c.spp-outside.ensures c.if-spp-outside.false (passed _ c.generation-outside.result 3 _ _ c.generation-outside.ensures c.if-generation-outside.false (passed _ c.charging-outside.result 4 _ _ c.charging-outside.ensures c.if-charging-outside.false (passed _ c.strays.result 5 _ _ (c.strays.ensures ∙ ap (λ m. strays (take m c.args.row.now.bases)) (sub-zero c.args.slices)) c.if-strays.false (passed _ c.hour-outside.result 6 _ _ c.hour-outside.ensures c.if-hour-outside.false (failed _ c.cap-outside.result 7 _ c.cap-outside.ensures c.if-cap-outside.true))))))
+returns-then-cap_outside c = passed _ c.resource_outside.result 1 _ _ c.resource_outside.ensures c.if-resource_outside.false (passed _ c.spp_outside.result 2 _ _ c.spp_outside.ensures c.if-spp_outside.false (passed _ c.generation_outside.result 3 _ _ c.generation_outside.ensures c.if-generation_outside.false (passed _ c.charging_outside.result 4 _ _ c.charging_outside.ensures c.if-charging_outside.false (passed _ c.strays.result 5 _ _ (c.strays.ensures ∙ ap (λ m. strays (take m c.args.row.now.bases)) (sub-zero c.args.slices)) c.if-strays.false (passed _ c.hour_outside.result 6 _ _ c.hour_outside.ensures c.if-hour_outside.false (failed _ c.cap_outside.result 7 _ c.cap_outside.ensures c.if-cap_outside.true))))))
 
-pub returns-else-cap-outside : goal.returns-else-cap-outside
+pub returns-else-cap_outside : goal.returns-else-cap_outside
 unfolding bad_field
-returns-else-cap-outside c = passed _ c.resource-outside.result 1 _ _ c.resource-outside.ensures c.if-resource-outside.false (passed _ c.spp-outside.result 2 _ _ c.spp-outside.ensures c.if-spp-outside.false (passed _ c.generation-outside.result 3 _ _ c.generation-outside.ensures c.if-generation-outside.false (passed _ c.charging-outside.result 4 _ _ c.charging-outside.ensures c.if-charging-outside.false (passed _ c.strays.result 5 _ _ (c.strays.ensures ∙ ap (λ m. strays (take m c.args.row.now.bases)) (sub-zero c.args.slices)) c.if-strays.false (passed _ c.hour-outside.result 6 _ _ c.hour-outside.ensures c.if-hour-outside.false (passed _ c.cap-outside.result 7 _ _ c.cap-outside.ensures c.if-cap-outside.false (refl)))))))
+returns-else-cap_outside c = passed _ c.resource_outside.result 1 _ _ c.resource_outside.ensures c.if-resource_outside.false (passed _ c.spp_outside.result 2 _ _ c.spp_outside.ensures c.if-spp_outside.false (passed _ c.generation_outside.result 3 _ _ c.generation_outside.ensures c.if-generation_outside.false (passed _ c.charging_outside.result 4 _ _ c.charging_outside.ensures c.if-charging_outside.false (passed _ c.strays.result 5 _ _ (c.strays.ensures ∙ ap (λ m. strays (take m c.args.row.now.bases)) (sub-zero c.args.slices)) c.if-strays.false (passed _ c.hour_outside.result 6 _ _ c.hour_outside.ensures c.if-hour_outside.false (passed _ c.cap_outside.result 7 _ _ c.cap_outside.ensures c.if-cap_outside.false (refl)))))))

@@ -11,7 +11,7 @@ loop-b-preserved c =
     rw (more, ← c.loop-b.invariant)
     (elim c.if-any.branch [
       | then-any w ↦ (w.any-is ∙ rw w.if-any.true)
-      | else-any w ↦ rw w.if-any.false (w.any-is ∙ w.is-far-any.ensures)
+      | else-any w ↦ rw w.if-any.false (w.any-is ∙ w.is_far-any.ensures)
     ])
 
 pub returns : goal.returns

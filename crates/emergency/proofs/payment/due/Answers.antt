@@ -38,15 +38,15 @@ small_less_2 : (a b c : ℤ) → nat_abs a ≤ 1000000000000 → nat_abs b ≤ 5
     SFits w64 (to_z w64 (of_z w64 (to_z w64 (of_z w64 a) -ℤ to_z w64 (of_z w64 b))) -ℤ to_z w64 (of_z w64 c))
 small_less_2 a b c h i j = omega (arith, ints)
 
-pub overflow-sub-result : goal.overflow-sub-result
-overflow-sub-result c =
+pub overflow_sub-result : goal.overflow_sub-result
+overflow_sub-result c =
     let p = c.requires in
     let a = first c.args.spp c.args.w c.args.e c.args.v c.args.d p.point p.above.0 p.above.1 p.below.0 p.below.1 c.product.result c.product.ensures in
     let b = times c.args.spp c.args.w c.args.e c.args.v c.args.d p.point p.above.0 p.above.1 p.below.0 p.below.1 c.product-2.result c.args.w c.args.e p.above.0 p.above.1 c.product-2.ensures in
     small_less c.product.result c.product-2.result a.1 b.1
 
-pub overflow-sub-result-2 : goal.overflow-sub-result-2
-overflow-sub-result-2 c =
+pub overflow_sub-result-2 : goal.overflow_sub-result-2
+overflow_sub-result-2 c =
     let p = c.requires in
     let a = first c.args.spp c.args.w c.args.e c.args.v c.args.d p.point p.above.0 p.above.1 p.below.0 p.below.1 c.product.result c.product.ensures in
     let b = times c.args.spp c.args.w c.args.e c.args.v c.args.d p.point p.above.0 p.above.1 p.below.0 p.below.1 c.product-2.result c.args.w c.args.e p.above.0 p.above.1 c.product-2.ensures in

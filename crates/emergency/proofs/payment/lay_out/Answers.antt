@@ -20,8 +20,8 @@ loop-i-preserved c =
     let f : ℕ → Slice = λ k. slice (get_or c.args.seconds.now k 0) (get_or bs k (pos 0)) (price_at (points_of c.args.curve.now) cap (get_or bs k (pos 0))) in
     let lt : i < length c.loop-i.slices = omega (arith, c.requires.room) in
     let b = clear (get_or bs i (pos 0)) (c.requires.near i c.loop-i-test.true) in
-    let p : to_z w32 (of_z w32 c.price-at.result) ≡ price_at (points_of c.args.curve.now) cap (get_or bs i (pos 0)) =
-    to_z-of_z w32 c.price-at.result (record { sfits = c.price-at.type-inv }) ∙ c.price-at.ensures ∙ ap (price_at (points_of c.args.curve.now) cap) b in
+    let p : to_z w32 (of_z w32 c.price_at.result) ≡ price_at (points_of c.args.curve.now) cap (get_or bs i (pos 0)) =
+    to_z-of_z w32 c.price_at.result (record { sfits = c.price_at.type_inv }) ∙ c.price_at.ensures ∙ ap (price_at (points_of c.args.curve.now) cap) b in
     rw (b, p) (fill_by_more f c.loop-i.slices i (slice 0 (pos 0) (pos 0)) lt c.loop-i.invariant)
 
 pub returns : goal.returns

@@ -11,8 +11,8 @@ use Rattle.emergency.proofs.payment.reckon.Goals as goal
 pub due-owed-requires : goal.due-owed-requires
 due-owed-requires c = record {
   point = omega (arith, ints, c.requires.point);
-  above = (omega (arith, ints, c.mean-price-w.ensures.small), omega (arith, ints, c.discharged-e.ensures.range));
-  below = (omega (arith, ints, c.mean-price-v.ensures.small), omega (arith, ints, c.charged-d.ensures.range));
+  above = (omega (arith, ints, c.mean_price-w.ensures.small), omega (arith, ints, c.discharged-e.ensures.range));
+  below = (omega (arith, ints, c.mean_price-v.ensures.small), omega (arith, ints, c.charged-d.ensures.range));
 }
 
 -- the part that is owed, clear of its bits
@@ -32,20 +32,20 @@ same w w' e e' v v' d d' a a' b b' p q r s t u = rw (p, q, r, s, t, u)
 pub returns : goal.returns
 unfolding amount basis
 returns c =
-    let ce = to_z-of_z w64 c.discharged-e.result (record { sfits = c.discharged-e.type-inv }) in
-    let cd = to_z-of_z w64 c.charged-d.result (record { sfits = c.charged-d.type-inv }) in
-    let cw = to_z-of_z w64 c.mean-price-w.result (record { sfits = c.mean-price-w.type-inv }) in
-    let cv = to_z-of_z w64 c.mean-price-v.result (record { sfits = c.mean-price-v.type-inv }) in
+    let ce = to_z-of_z w64 c.discharged-e.result (record { sfits = c.discharged-e.type_inv }) in
+    let cd = to_z-of_z w64 c.charged-d.result (record { sfits = c.charged-d.type_inv }) in
+    let cw = to_z-of_z w64 c.mean_price-w.result (record { sfits = c.mean_price-w.type_inv }) in
+    let cv = to_z-of_z w64 c.mean_price-v.result (record { sfits = c.mean_price-v.type_inv }) in
     let cs = wide c.args.spp c.ranges.spp in
     let cc = to_z-of_z w32 c.args.charging c.ranges.charging in
-    let w = cw ∙ c.mean-price-w.ensures.value in
+    let w = cw ∙ c.mean_price-w.ensures.value in
     let e = ce ∙ c.discharged-e.ensures.value in
-    let v = cv ∙ c.mean-price-v.ensures.value in
+    let v = cv ∙ c.mean_price-v.ensures.value in
     let d = cd ∙ c.charged-d.ensures.value ∙ ap (λ z. charged z c.args.slices.now) cc in
     let xs = c.args.slices.now in
     let is_due : c.due-owed.result ≡ due c.args.spp (mean_price Above xs) (discharged c.args.generation xs) (mean_price Below xs) (charged c.args.charging xs) =
     c.due-owed.ensures ∙ rw (cs, w, e, v, d) in
-    let a = to_z-of_z w64 c.nearest.result (record { sfits = c.nearest.type-inv }) ∙ c.nearest.ensures.value
-    ∙ ap (λ z. nearest_to z 1000) (cut c.due-owed.result c.min.result (record { sfits = c.due-owed.type-inv }) c.min.ensures.value ∙ ap (int_min (pos 0)) is_due) in
+    let a = to_z-of_z w64 c.nearest.result (record { sfits = c.nearest.type_inv }) ∙ c.nearest.ensures.value
+    ∙ ap (λ z. nearest_to z 1000) (cut c.due-owed.result c.min.result (record { sfits = c.due-owed.type_inv }) c.min.ensures.value ∙ ap (int_min (pos 0)) is_due) in
     let b = c.moved.ensures ∙ rw (e, d) in
     same _ _ _ _ _ _ _ _ _ _ _ _ w e v d a b

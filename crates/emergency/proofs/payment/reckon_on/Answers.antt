@@ -22,7 +22,7 @@ reckon-requires c =
     let fit = c.requires.fitting in
     let row = c.args.row.now in
     let cap = clear row.cap fit.free fit.capped in
-    let e = c.lay-out.ensures ∙ ap (λ z. sliced (points_of c.args.curve.now) z c.args.seconds.now row.bases) cap in
+    let e = c.lay_out.ensures ∙ ap (λ z. sliced (points_of c.args.curve.now) z c.args.seconds.now row.bases) cap in
     record {
       few = omega (arith, c.requires.quarter.few);
       each = subst (All Limited) (sym e) (sliced_limited (points_of c.args.curve.now) c.args.seconds.now row (cheap _ c.args.curve.now.inside) c.requires.quarter.each fit);

@@ -7,5 +7,5 @@ use Rattle.emergency.proofs.payment.scheduled.Goals as goal
 pub returns : goal.returns
 unfolding scheduled
 returns c =
-    to_z-of_z w64 c.nearest.result (record { sfits = c.nearest.type-inv }) ∙ c.nearest.ensures.value
-    ∙ ap (λ z. nearest_to z 3600) (to_z-of_z w64 c.worked.result (record { sfits = c.worked.type-inv }) ∙ c.worked.ensures)
+    to_z-of_z w64 c.nearest.result (record { sfits = c.nearest.type_inv }) ∙ c.nearest.ensures.value
+    ∙ ap (λ z. nearest_to z 3600) (to_z-of_z w64 c.worked.result (record { sfits = c.worked.type_inv }) ∙ c.worked.ensures)

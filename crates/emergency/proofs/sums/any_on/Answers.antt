@@ -12,7 +12,7 @@ loop-x-preserved c =
     rw (more, ← c.loop-x.invariant)
     (elim c.if-any.branch [
       | then-any w ↦ (w.any-is ∙ rw w.if-any.true)
-      | else-any w ↦ (w.any-is ∙ w.is-on-any.ensures ∙ rw w.if-any.false)
+      | else-any w ↦ (w.any-is ∙ w.is_on-any.ensures ∙ rw w.if-any.false)
     ])
 
 pub returns : goal.returns

@@ -20,8 +20,8 @@ module _ (c : goal.After-weighed-all) where
   is : c.weighed-all.result ≡ (get_or c.args.slices.now c.loop-x.x-index none).price *ℤ pos (weight_of c.args.side (get_or c.args.slices.now c.loop-x.x-index none))
   is = one.0 ∙ ap (λ w. (get_or c.args.slices.now c.loop-x.x-index none).price *ℤ pos w) c.weight.ensures.value
 
-pub overflow-add-all : goal.overflow-add-all
-overflow-add-all c = step_fits (λ x. x.price *ℤ pos (weight_of c.args.side x)) c.args.slices.now c.loop-x.x-index 1800000000000000 _ c.weighed-all.result c.loop-x-test.true c.requires.few c.loop-x.invariant (is c) (one c).1 (omega arith)
+pub overflow_add-all : goal.overflow_add-all
+overflow_add-all c = step_fits (λ x. x.price *ℤ pos (weight_of c.args.side x)) c.args.slices.now c.loop-x.x-index 1800000000000000 _ c.weighed-all.result c.loop-x-test.true c.requires.few c.loop-x.invariant (is c) (one c).1 (omega arith)
 
 pub loop-x-preserved : goal.loop-x-preserved
 loop-x-preserved c = step_sum (λ x. x.price *ℤ pos (weight_of c.args.side x)) c.args.slices.now c.loop-x.x-index 1800000000000000 _ c.weighed-all.result c.loop-x-test.true c.requires.few c.loop-x.invariant (is c) (one c).1 (omega arith)

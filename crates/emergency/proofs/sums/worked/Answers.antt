@@ -21,8 +21,8 @@ module _ (c : goal.After-weighed-all) where
   is : c.weighed-all.result ≡ power c.args.side (get_or c.args.slices.now c.loop-x.x-index none) *ℤ pos (get_or c.args.slices.now c.loop-x.x-index none).seconds
   is = one.0 ∙ ap (λ z. z *ℤ pos (get_or c.args.slices.now c.loop-x.x-index none).seconds) c.power.ensures
 
-pub overflow-add-all : goal.overflow-add-all
-overflow-add-all c = step_fits (λ x. power c.args.side x *ℤ pos x.seconds) c.args.slices.now c.loop-x.x-index 1800000000 _ c.weighed-all.result c.loop-x-test.true c.requires.few c.loop-x.invariant (is c) (one c).1 (omega arith)
+pub overflow_add-all : goal.overflow_add-all
+overflow_add-all c = step_fits (λ x. power c.args.side x *ℤ pos x.seconds) c.args.slices.now c.loop-x.x-index 1800000000 _ c.weighed-all.result c.loop-x-test.true c.requires.few c.loop-x.invariant (is c) (one c).1 (omega arith)
 
 pub loop-x-preserved : goal.loop-x-preserved
 loop-x-preserved c = step_sum (λ x. power c.args.side x *ℤ pos x.seconds) c.args.slices.now c.loop-x.x-index 1800000000 _ c.weighed-all.result c.loop-x-test.true c.requires.few c.loop-x.invariant (is c) (one c).1 (omega arith)

@@ -13,7 +13,7 @@ two_zero m start b met o r u v e f =
 
 pub returns : goal.returns
 returns c =
-    let z = two_zero 1 _ _ (record { call = _; got = _ } ∷ []) c.in-ok-open.ensures.opened (_, refl, c.in-ok-settle.ensures.step) c.in-ok-one.one c.in-ok-two.two c.in-ok-one.ensures.says c.in-ok-two.ensures.says in
-    let f1 : SFits w128 c.in-ok-one.one = search rules in
-    let f2 : SFits w128 c.in-ok-two.two = search rules in
+    let z = two_zero 1 _ _ (record { call = _; got = _ } ∷ []) c.in_ok-open.ensures.opened (_, refl, c.in_ok-settle.ensures.step) c.in_ok-one.one c.in_ok-two.two c.in_ok-one.ensures.says c.in_ok-two.ensures.says in
+    let f1 : SFits w128 c.in_ok-one.one = search rules in
+    let f2 : SFits w128 c.in_ok-two.two = search rules in
     simp to_z-of_z z

@@ -1,18 +1,18 @@
-use Rattle.std.proofs.Common.{◌≡◌, ℕ, ◌+◌, ◌-◌, ◌*◌, ◌/◌, ◌<◌, ◌≤◌, length, get_or, take, sum_by, sum, sym, ap, ◌∙◌, mul-le-mul, arith, rules}
+use Rattle.std.proofs.Common.{ℕ, ◌+◌, ◌-◌, ◌≤◌, get_or, sum_by, sum, ap, ◌∙◌, mul-le-mul, arith}
 use Rattle.std.proofs.lemmas.List.Sums.{sum_by_more, sum_by-take-le}
 use Rattle.std.proofs.lemmas.List.{take_all}
 use Rattle.std.proofs.ByRecursion.{All-get_or}
-use Rattle.sharing.specs.Leftover.{down, missing}
+use Rattle.sharing.specs.Leftover.{down}
 use Rattle.sharing.specs.LeftoverLaws.{down_le}
 use Rattle.sharing.proofs.leftover.missing_cents.Goals as goal
 
-pub overflow-mul-left : goal.overflow-mul-left
-overflow-mul-left c =
+pub overflow_mul-left : goal.overflow_mul-left
+overflow_mul-left c =
     let x : get_or c.args.loads.now c.loop-x.x-index 0 ≤ 20000000 = All-get_or (λ x. x ≤ 20000000) c.args.loads.now c.loop-x.x-index 0 c.loop-x-test.true c.requires.each in
     omega (arith, mul-le-mul c.requires.small x)
 
-pub overflow-sub-left : goal.overflow-sub-left
-overflow-sub-left c =
+pub overflow_sub-left : goal.overflow_sub-left
+overflow_sub-left c =
     let m : ℕ = c.args.magnitude in
     let ls = c.args.loads.now in
     rw c.requires.sums (omega (arith, sum_by_more (down m (sum ls)) ls c.loop-x.x-index 0 c.loop-x-test.true, sum_by-take-le (down m (sum ls)) ls (c.loop-x.x-index + 1), down_le m ls c.requires.loaded))

@@ -1,4 +1,4 @@
-use Rattle.std.proofs.Common.{◌≡◌, ℕ, ◌-◌, take, sum_by, sum}
+use Rattle.std.proofs.Common.{◌≡◌, ◌-◌, take, sum_by, sum}
 use Rattle.sharing.specs.Leftover.{down}
 use Rattle.sharing.proofs.leftover.missing_cents.Given as goal
 

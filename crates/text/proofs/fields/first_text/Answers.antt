@@ -9,9 +9,9 @@ use Rattle.text.proofs.fields.first_text.Goals as goal
 pub returns : goal.returns
 returns c =
     let s = c.args.line.now in
-    let n = c.field-len-n.result in
-    let at = c.field-len-n.ensures.value in
+    let n = c.field_len-n.result in
+    let at = c.field_len-n.ensures.value in
     record {
-      value = c.before-blanks-text.ensures ∙ ap trim_end (c.after-blanks.ensures ∙ ap (past blank) (ap (λ k. take k s) (sub-zero n) ∙ sym (front_at in_field s n at)));
+      value = c.before_blanks-text.ensures ∙ ap trim_end (c.after_blanks.ensures ∙ ap (past blank) (ap (λ k. take k s) (sub-zero n) ∙ sym (front_at in_field s n at)));
       rest = take_rest s n ∙ past_at in_field s n at;
     }

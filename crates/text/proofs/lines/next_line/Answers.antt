@@ -9,8 +9,8 @@ use Rattle.text.proofs.lines.next_line.Goals as goal
 pub returns : goal.returns
 returns c =
     let s = c.args.text.now in
-    let n = c.line-len-n.result in
-    let at = c.line-len-n.ensures.value in
-    let first = c.without-cr.ensures ∙ ap without_cr (ap (λ k. take k s) (sub-zero n) ∙ sym (front_at in_line s n at)) in
-    let after = c.after-first.ensures ∙ ap (drop 1) (take_rest s n ∙ past_at in_line s n at) in
+    let n = c.line_len-n.result in
+    let at = c.line_len-n.ensures.value in
+    let first = c.without_cr.ensures ∙ ap without_cr (ap (λ k. take k s) (sub-zero n) ∙ sym (front_at in_line s n at)) in
+    let after = c.after_first.ensures ∙ ap (drop 1) (take_rest s n ∙ past_at in_line s n at) in
     record { line = first; rest = after; lines = lines_next s _ _ first after; fewer = line_fewer s _ after }

@@ -8,25 +8,25 @@ use Rattle.text.proofs.Written.{inside_field, piece_end}
 use Rattle.text.proofs.Items.{wanted, after, item_none, item_other, item_last, item_more, more_past, more_less, onto, onto_more, onto_some, onto_none}
 use Rattle.text.proofs.lists.items.Goals as goal
 
-pub returns-in-default : goal.returns-in-default
-returns-in-default g c =
-    let none = item_none g.T.Number.kind c.loop-number.line.now c.in-default.ensures in
+pub returns-in_default : goal.returns-in_default
+returns-in_default g c =
+    let none = item_none g.T.Number.kind c.loop-number.line.now c.in_default.ensures in
     record { value = (onto_none _ _ (c.loop-number.invariant.1 ∙ ap (onto (vec_items c.loop-number.into)) none), refl); rest = tt }
 
-pub returns-in-err-push : goal.returns-in-err-push
-returns-in-err-push g c =
-    let p = err_from_is_err_and c.from-residual.result c.from-residual.ensures.1 in
-    let push = c.in-err-push.ensures in
+pub returns-in_err-push : goal.returns-in_err-push
+returns-in_err-push g c =
+    let p = err_from_is_err_and c.from_residual.result c.from_residual.ensures.1 in
+    let push = c.in_err-push.ensures in
     rw (p.1, p.2) (record { value = omega (arith, c.loop-number.invariant.2, push.full, push.len); rest = tt })
 
-pub returns-then-at-end : goal.returns-then-at-end
-returns-then-at-end g c =
+pub returns-then-at_end : goal.returns-then-at_end
+returns-then-at_end g c =
     let line = c.loop-number.line.now in
     let behind = c.in-Some.ensures.1 in
-    let at : ends in_field (after line) ≡ true = sym (ap (ends in_field) behind) ∙ sym c.at-end.ensures ∙ c.if-at-end.true in
+    let at : ends in_field (after line) ≡ true = sym (ap (ends in_field) behind) ∙ sym c.at_end.ensures ∙ c.if-at_end.true in
     let last = item_last g.T.Number.kind line c.in-Some.number c.in-Some.ensures.0 at in
     record {
-      value = onto_some _ _ _ (c.loop-number.invariant.1 ∙ ap (onto (vec_items c.loop-number.into)) last ∙ ap Some (sym c.in-ok-push.ensures.items));
+      value = onto_some _ _ _ (c.loop-number.invariant.1 ∙ ap (onto (vec_items c.loop-number.into)) last ∙ ap Some (sym c.in_ok-push.ensures.items));
       rest = behind ∙ sym (piece_end in_field inside_field line at) ∙ c.loop-number.invariant.0;
     }
 
@@ -34,7 +34,7 @@ pub returns-then-not-starts : goal.returns-then-not-starts
 returns-then-not-starts g c =
     let line = c.loop-number.line.now in
     let behind = c.in-Some.ensures.1 in
-    let at : ends in_field (after line) ≡ false = sym (ap (ends in_field) behind) ∙ sym c.at-end.ensures ∙ c.if-at-end.false in
+    let at : ends in_field (after line) ≡ false = sym (ap (ends in_field) behind) ∙ sym c.at_end.ensures ∙ c.if-at_end.false in
     let no' : begins 59 (after line) ≡ false = sym (ap (begins 59) behind) ∙ sym c.starts.ensures.value ∙ c.if-not-starts.true in
     let none = item_other g.T.Number.kind line at no' in
     record { value = (onto_none _ _ (c.loop-number.invariant.1 ∙ ap (onto (vec_items c.loop-number.into)) none), refl); rest = tt }
@@ -57,8 +57,8 @@ loop-number-preserved g c =
     let yes' : begins 59 (after line) ≡ true = sym (ap (begins 59) behind) ∙ sym c.starts.ensures.value ∙ c.if-not-starts.false in
     let next = take_rest rest 1 ∙ ap (drop 1) behind in
     let items = vec_items c.loop-number.into in
-    let pushed = c.in-ok-push.ensures.items in (
+    let pushed = c.in_ok-push.ensures.items in (
       ap (past in_field) next ∙ more_past line yes' ∙ c.loop-number.invariant.0,
       c.loop-number.invariant.1 ∙ ap (onto items) (item_more kind line x c.in-Some.ensures.0 yes') ∙ onto_more items x (wanted kind (drop 1 (after line))) ∙ ap (λ ys. onto ys (wanted kind (drop 1 (after line)))) (sym pushed) ∙ ap (λ l. onto (vec_items c.push.new.self) (wanted kind l)) (sym next),
-      omega (arith, c.loop-number.invariant.2, c.in-ok-push.ensures.capacity),
+      omega (arith, c.loop-number.invariant.2, c.in_ok-push.ensures.capacity),
     )

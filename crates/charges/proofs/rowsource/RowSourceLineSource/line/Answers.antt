@@ -7,7 +7,7 @@ use Rattle.charges.proofs.rowsource.RowSourceLineSource.line.Goals.{then-n-lt1-v
 pub returns-then-n-lt1 : goal.returns-then-n-lt1
 returns-then-n-lt1 g c =
     let self = c.args.self.now in
-    ap Err c.no-line.ensures
+    ap Err c.no_line.ensures
     ∙ sym (at_norow (g.T.Reader.lineOf self.reader) self.rows.now c.args.n (no_line c.args.n)
     (elim c.then-n-lt1.branch [ then-n-lt1-via-then-n-lt1 w ↦ inl w.if-n-lt1.true | then-n-lt1-via-else-n-lt1+then-n-self w ↦ inr w.if-n-self.true ]))
 

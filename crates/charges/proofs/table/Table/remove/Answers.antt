@@ -8,21 +8,26 @@ use Rattle.charges.proofs.table.Table.remove.Goals as goal
 abbrev empty : Figure
 empty = record { resource = 0; figure = pos 0 }
 
-pub invariant-of-self : goal.invariant-of-self
-invariant-of-self c =
+pub invariant_of-self : goal.invariant_of-self
+invariant_of-self c =
     let t = c.args.self.now in
-    let at = c.own-place-freed.result in
-    let low = own_low t.rows c.args.resource at c.own-place-freed.ensures c.if-freed-lt32.true in
-    let w = remove_wrote t.rows c.args.resource at t.many c.own-place-freed.ensures empty c.if-freed-lt32.true t.once refl in
-    (length-set t.rows at empty ∙ t.many, (w.once, (wrote_small w low (omega arith) t.small, (wrote_known w low (λ no. absurd (false≢true no)) t.known, tt))))
+    let at = c.own_place-freed.result in
+    let low = own_low t.rows c.args.resource at c.own_place-freed.ensures c.if-freed-lt32.true in
+    let w = remove_wrote t.rows c.args.resource at t.many c.own_place-freed.ensures empty c.if-freed-lt32.true t.once refl in
+    record {
+      many = length-set t.rows at empty ∙ t.many;
+      once = w.once;
+      small = wrote_small w low (omega arith) t.small;
+      known = wrote_known w low (λ no. absurd (false≢true no)) t.known;
+    }
 
 pub returns-then-freed-lt32 : goal.returns-then-freed-lt32
 returns-then-freed-lt32 c =
     let t = c.args.self.now in
-    let at = c.own-place-freed.result in
-    let low = own_low t.rows c.args.resource at c.own-place-freed.ensures c.if-freed-lt32.true in
-    let w = remove_wrote t.rows c.args.resource at t.many c.own-place-freed.ensures empty c.if-freed-lt32.true t.once refl in
-    let held = own_held t.rows c.args.resource at empty c.own-place-freed.ensures t.many c.if-freed-lt32.true in
+    let at = c.own_place-freed.result in
+    let low = own_low t.rows c.args.resource at c.own_place-freed.ensures c.if-freed-lt32.true in
+    let w = remove_wrote t.rows c.args.resource at t.many c.own_place-freed.ensures empty c.if-freed-lt32.true t.once refl in
+    let held = own_held t.rows c.args.resource at empty c.own_place-freed.ensures t.many c.if-freed-lt32.true in
     record {
       holds = record { map = fun_ext (wrote_map w low); many = w.size };
       kept = λ none. absurd (some_not_none _ (sym held ∙ none));
@@ -32,5 +37,5 @@ returns-then-freed-lt32 c =
 pub returns-else-freed-lt32 : goal.returns-else-freed-lt32
 returns-else-freed-lt32 c =
     let t = c.args.self.now in
-    let n = remove_none t.rows c.args.resource c.own-place-freed.result t.many c.own-place-freed.ensures c.if-freed-lt32.false in
+    let n = remove_none t.rows c.args.resource c.own_place-freed.result t.many c.own_place-freed.ensures c.if-freed-lt32.false in
     record { holds = record { map = n.0; many = n.1 }; kept = λ none. refl; outside = λ out. refl }

@@ -25,8 +25,8 @@ loop-i-init c =
     let lt : (at s.points 0).power <ℤ to_z w32 (of_z w32 c.args.power) = omega (arith, ints) in
     (omega arith, s.some, rw e lt, rw e (omega (arith, ints)))
 
-pub on-line-requires : goal.on-line-requires
-on-line-requires c =
+pub on_line-requires : goal.on_line-requires
+on_line-requires c =
     let s = c.args.self.now in
     let len : length s.points ≡ 13 = search rules in
     let i : ℕ = c.loop-i.i in
@@ -47,8 +47,8 @@ returns-then-power-self-2 c =
     let a : (at s.points 0).power <ℤ c.args.power = rw (e0, x) at c.loop-i.invariant.2 in
     let b : (at s.points (i - 1)).power ≤ℤ c.args.power = rw (e1, x) at c.loop-i.invariant.3 in
     let d : c.args.power <ℤ (at s.points i).power = omega (arith, ints) in
-    let r : to_z w32 (of_z w32 c.on-line.result) ≡ c.on-line.result = to_z-of_z w32 c.on-line.result (record { sfits = c.on-line.type-inv }) in
-    let e = r ∙ c.on-line.ensures ∙ ap (line (at s.points (i - 1)) (at s.points i)) x ∙ held.within_at s.points s.count len s.some s.few s.rising s.inside c.args.power i c.loop-i.invariant.0 c.loop-i-test.true a b d in
+    let r : to_z w32 (of_z w32 c.on_line.result) ≡ c.on_line.result = to_z-of_z w32 c.on_line.result (record { sfits = c.on_line.type_inv }) in
+    let e = r ∙ c.on_line.ensures ∙ ap (line (at s.points (i - 1)) (at s.points i)) x ∙ held.within_at s.points s.count len s.some s.few s.rising s.inside c.args.power i c.loop-i.invariant.0 c.loop-i-test.true a b d in
     record { value = e; means = held.in_words s.points s.count len s.some s.few s.rising s.inside c.args.power _ e; only = held.pinned s.points s.count len s.some s.few s.rising s.inside c.args.power _ e }
 
 pub loop-i-preserved : goal.loop-i-preserved

@@ -9,7 +9,7 @@ pub returns-then-power-row : goal.returns-then-power-row
 returns-then-power-row c =
     let row = c.args.row.now in
     let len : length row.points ≡ 10 = search rules in
-    let power = c.power-offender-power in
+    let power = c.power_offender-power in
     inr (
       (c.if-row-lt1.false, c.if-row-gt10.false),
       inl (refl, omega arith, first_bad GoodPower row.points row.count power.result (omega arith) power.ensures.before power.ensures.found c.if-power-row.true),
@@ -19,8 +19,8 @@ pub returns-then-price-row : goal.returns-then-price-row
 returns-then-price-row c =
     let row = c.args.row.now in
     let len : length row.points ≡ 10 = search rules in
-    let power = c.power-offender-power in
-    let price = c.price-offender-price in
+    let power = c.power_offender-power in
+    let price = c.price_offender-price in
     inr (
       (c.if-row-lt1.false, c.if-row-gt10.false),
       inr (
@@ -29,12 +29,12 @@ returns-then-price-row c =
       ),
     )
 
-pub returns-then-limits-stand : goal.returns-then-limits-stand
-returns-then-limits-stand c =
+pub returns-then-limits_stand : goal.returns-then-limits_stand
+returns-then-limits_stand c =
     let row = c.args.row.now in
     let len : length row.points ≡ 10 = search rules in
-    let power = c.power-offender-power in
-    let price = c.price-offender-price in
+    let power = c.power_offender-power in
+    let price = c.price_offender-price in
     let l : SFits w32 row.lsl = search rules in
     let h : SFits w32 row.hsl = search rules in (
       (c.if-row-lt1.false, c.if-row-gt10.false),
@@ -42,17 +42,17 @@ returns-then-limits-stand c =
         all_good GoodPower row.points row.count power.result (omega arith) power.ensures.before power.ensures.found c.if-power-row.false,
         (
           all_good GoodPrice row.points row.count price.result (omega arith) price.ensures.before price.ensures.found c.if-price-row.false,
-          (simp to_z-of_z at (c.if-limits-stand.ensures.0 refl), tt),
+          (simp to_z-of_z at (c.if-limits_stand.ensures.0 refl), tt),
         ),
       ),
     )
 
-pub returns-else-limits-stand : goal.returns-else-limits-stand
-returns-else-limits-stand c =
+pub returns-else-limits_stand : goal.returns-else-limits_stand
+returns-else-limits_stand c =
     let row = c.args.row.now in
     let len : length row.points ≡ 10 = search rules in
-    let power = c.power-offender-power in
-    let price = c.price-offender-price in
+    let power = c.power_offender-power in
+    let price = c.price_offender-price in
     let l : SFits w32 row.lsl = search rules in
     let h : SFits w32 row.hsl = search rules in
     inr (
@@ -61,7 +61,7 @@ returns-else-limits-stand c =
         all_good GoodPower row.points row.count power.result (omega arith) power.ensures.before power.ensures.found c.if-power-row.false,
         inr (
           all_good GoodPrice row.points row.count price.result (omega arith) price.ensures.before price.ensures.found c.if-price-row.false,
-          inl (refl, refl, not_from_Decides c.limits-stand.result (simp to_z-of_z at c.limits-stand.ensures) c.if-limits-stand.false),
+          inl (refl, refl, not_from_Decides c.limits_stand.result (simp to_z-of_z at c.limits_stand.ensures) c.if-limits_stand.false),
         ),
       ),
     )

@@ -12,27 +12,27 @@ use Rattle.curves.proofs.Soundness.{sound}
 use Rattle.curves.proofs.Completion.{completed_shaped, first_in, last_in, first_same, last_same, listed_length, four, same_if}
 use Rattle.curves.proofs.curve.completion.fill.Goals as goal
 
-pub overflow-sub-step : goal.overflow-sub-step
-overflow-sub-step c =
+pub overflow_sub-step : goal.overflow_sub-step
+overflow_sub-step c =
     let row = c.args.row.now in
     let len : length row.points ≡ 10 = search rules in
     let i : InLimits (at row.points 0) = rw (first_same row (sound row c.requires.sound) len) (first_in row (sound row c.requires.sound) len) in
     omega (arith, ints)
 
-pub put-if-n-requires-2 : goal.put-if-n-requires-2
-put-if-n-requires-2 c = record { room = omega arith }
+pub put_if-n-requires-2 : goal.put_if-n-requires-2
+put_if-n-requires-2 c = record { room = omega arith }
 
 lent_length : (pts : List Point) (n : ℕ) → length pts ≡ 10 → n ≤ 10 → length (take (n - 0) pts) ≡ n
 lent_length pts n e h = rw (sub-zero n) (length-take-le n pts (omega arith))
 
-pub put-all-n-requires : goal.put-all-n-requires
-put-all-n-requires c =
+pub put_all-n-requires : goal.put_all-n-requires
+put_all-n-requires c =
     let row = c.args.row.now in
     let len : length row.points ≡ 10 = search rules in
     record { room = omega (arith, lent_length row.points row.count len (sound row c.requires.sound).count.1, (sound row c.requires.sound).count) }
 
-pub put-if-requires : goal.put-if-requires
-put-if-requires c =
+pub put_if-requires : goal.put_if-requires
+put_if-requires c =
     let row = c.args.row.now in
     let len : length row.points ≡ 10 = search rules in
     record { room = omega (arith, lent_length row.points row.count len (sound row c.requires.sound).count.1, (sound row c.requires.sound).count) }
@@ -61,15 +61,15 @@ returns c =
     let lx : to_z w32 (of_z w32 (at row.points (row.count - 1)).power) ≡ l.power = bits _ l.power (ap (λ p. p.power) (last_same row s len)) (omega (arith, ints)) in
     let ly : to_z w32 (of_z w32 (at row.points (row.count - 1)).price) ≡ l.price = bits _ l.price (ap (λ p. p.price) (last_same row s len)) (omega (arith, ints)) in
     let sx : to_z w32 (of_z w32 (to_z w32 (of_z w32 (at row.points 0).power) -ℤ pos 1000)) ≡ f.power -ℤ pos 1000 = bits _ (f.power -ℤ pos 1000) (ap (λ z. z -ℤ pos 1000) fx) (omega (arith, ints)) in
-    let l₁ = take c.put-if-n.result c.put-if-n.new.points in
-    let l₂ = take c.put-if-n-2.result c.put-if-n-2.new.points in
-    let l₃ = take c.put-all-n.result c.put-all-n.new.points in
-    let whole : take c.put-if.result c.put-if.new.points ≡ completed row =
+    let l₁ = take c.put_if-n.result c.put_if-n.new.points in
+    let l₂ = take c.put_if-n-2.result c.put_if-n-2.new.points in
+    let l₃ = take c.put_all-n.result c.put_all-n.new.points in
+    let whole : take c.put_if.result c.put_if.new.points ≡ completed row =
     four (low_end row) (step_up row) (listed row) (high_end row) l₁ l₂ l₃ _
-    (c.put-if-n.ensures.list ∙ same_if _ _ _ _ _ _ _ _ low fx low refl)
-    (c.put-if-n-2.ensures.list ∙ ap (λ t. l₁ ++ t) (same_if _ _ _ _ _ _ _ _ low (bits _ (f.power -ℤ pos 1000) sx (omega (arith, ints))) sx (least c.min.result f.price _ c.min.ensures.value fy fi.2 fi.3)))
-    (c.put-all-n.ensures.list ∙ ap (λ n. l₂ ++ take n row.points) (sub-zero row.count))
-    (c.put-if.ensures.list ∙ ap (λ t. l₃ ++ t) (same_if _ _ _ _ _ _ _ _ lx high high ly)) in
+    (c.put_if-n.ensures.list ∙ same_if _ _ _ _ _ _ _ _ low fx low refl)
+    (c.put_if-n-2.ensures.list ∙ ap (λ t. l₁ ++ t) (same_if _ _ _ _ _ _ _ _ low (bits _ (f.power -ℤ pos 1000) sx (omega (arith, ints))) sx (least c.min.result f.price _ c.min.ensures.value fy fi.2 fi.3)))
+    (c.put_all-n.ensures.list ∙ ap (λ n. l₂ ++ take n row.points) (sub-zero row.count))
+    (c.put_if.ensures.list ∙ ap (λ t. l₃ ++ t) (same_if _ _ _ _ _ _ _ _ lx high high ly)) in
     record {
       within = omega (arith, lent_length row.points row.count len s.count.1, s.count);
       list = whole;

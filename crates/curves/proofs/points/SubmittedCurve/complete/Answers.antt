@@ -5,8 +5,8 @@ use Rattle.curves.specs.Submission.{checks, number_of, place_of}
 use Rattle.curves.proofs.Acceptance.{accepted_says, refused_not}
 use Rattle.curves.proofs.points.SubmittedCurve.complete.Goals as goal
 
-pub invariant-of-result : goal.invariant-of-result
-invariant-of-result c =
+pub invariant_of-result : goal.invariant_of-result
+invariant_of-result c =
     let s = c.fill-count.ensures.shape in
     (omega (arith, s.some, length-take c.fill-count.result c.fill-count.new.points), (c.fill-count.ensures.within, (s.rising, (s.inside, tt))))
 

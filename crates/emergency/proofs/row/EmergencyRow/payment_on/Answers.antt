@@ -9,12 +9,12 @@ use Rattle.emergency.specs.Fields.{bad_field}
 use Rattle.emergency.proofs.Limits.{fitting}
 use Rattle.emergency.proofs.row.EmergencyRow.payment_on.Goals as goal
 
-pub reckon-on-requires : goal.reckon-on-requires
-reckon-on-requires c =
-    let z : c.bad-field-field.result ≡ 0 = omega arith in
+pub reckon_on-requires : goal.reckon_on-requires
+reckon_on-requires c =
+    let z : c.bad_field-field.result ≡ 0 = omega arith in
     record {
       quarter = c.slices-seconds.ensures.quarter;
-      fitting = fitting (length c.slices-seconds.result.now) c.args.self.now (sym c.bad-field-field.ensures ∙ z);
+      fitting = fitting (length c.slices-seconds.result.now) c.args.self.now (sym c.bad_field-field.ensures ∙ z);
     }
 
 module _ (seconds : List ℕ) (points : List Point) (row : EmergencyRow) (field : ℕ) (is : field ≡ bad_field (length seconds) row) where
@@ -28,11 +28,11 @@ module _ (seconds : List ℕ) (points : List Point) (row : EmergencyRow) (field 
 
 pub returns-then-field-gt0 : goal.returns-then-field-gt0
 returns-then-field-gt0 c =
-    faulty c.slices-seconds.result.now (points_of c.args.curve.now) c.args.self.now c.bad-field-field.result c.bad-field-field.ensures c.if-field-gt0.true
+    faulty c.slices-seconds.result.now (points_of c.args.curve.now) c.args.self.now c.bad_field-field.result c.bad_field-field.ensures c.if-field-gt0.true
     ∙ ap (λ s. payment_on s (points_of c.args.curve.now) c.args.self.now) c.slices-seconds.ensures.value
 
 pub returns : goal.returns
 returns c =
-    ap Ok c.reckon-on.ensures
-    ∙ sound c.slices-seconds.result.now (points_of c.args.curve.now) c.args.self.now c.bad-field-field.result c.bad-field-field.ensures c.if-field-gt0.false
+    ap Ok c.reckon_on.ensures
+    ∙ sound c.slices-seconds.result.now (points_of c.args.curve.now) c.args.self.now c.bad_field-field.result c.bad_field-field.ensures c.if-field-gt0.false
     ∙ ap (λ s. payment_on s (points_of c.args.curve.now) c.args.self.now) c.slices-seconds.ensures.value

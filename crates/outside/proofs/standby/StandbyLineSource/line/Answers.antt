@@ -6,7 +6,7 @@ use Rattle.outside.proofs.standby.StandbyLineSource.line.Goals.{then-n-lt1-via-t
 
 pub returns-then-n-lt1 : goal.returns-then-n-lt1
 returns-then-n-lt1 c =
-    ap Err c.no-line.ensures
+    ap Err c.no_line.ensures
     ∙ sym (line_at_unmade (fee_line c.args.self.now) c.args.self.now.count c.args.n
     (elim c.then-n-lt1.branch [ then-n-lt1-via-then-n-lt1 w ↦ inl w.if-n-lt1.true | then-n-lt1-via-else-n-lt1+then-n-self w ↦ inr w.if-n-self.true ]))
 

@@ -1,4 +1,4 @@
-use Rattle.std.proofs.Common.{◌≡◌, ℕ, ◌*◌, ◌≤◌, take, sum}
+use Rattle.std.proofs.Common.{◌≡◌, ◌*◌, ◌≤◌, take, sum}
 use Rattle.quarters.proofs.quarter.make.sum_of.Given as goal
 
 abbrev pub invariant-loop-s : goal.invariant-loop-s

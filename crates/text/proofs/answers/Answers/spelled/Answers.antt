@@ -4,8 +4,8 @@ use Rattle.std.specs.Fmt.{sign_text}
 use Rattle.text.proofs.Spelling.{before, place_left}
 use Rattle.text.proofs.answers.Answers.spelled.Goals as goal
 
-pub overflow-sub-first : goal.overflow-sub-first
-overflow-sub-first c = place_left c.spell-at.new.places c.spell-at.result c.args.n (c.spell-at.auto.places ∙ c.requires.size) c.spell-at.ensures.digits (c.requires.fits c.if-negative.true) c.ranges.n.fits
+pub overflow_sub-first : goal.overflow_sub-first
+overflow_sub-first c = place_left c.spell-at.new.places c.spell-at.result c.args.n (c.spell-at.auto.places ∙ c.requires.size) c.spell-at.ensures.digits (c.requires.fits c.if-negative.true) c.ranges.n.fits
 
 pub returns-then-negative : goal.returns-then-negative
 returns-then-negative c =
