@@ -1,5 +1,5 @@
 -- What a walk's answer tells of the checks on the lines.
-use Rattle.std.proofs.Common.{◌≡◌, ℕ, ◌-◌, ◌≤◌, List, get_or, ℤ, pos, Some, None, Ok, Err, Option, Result, sym, refl, ap, arith}
+use Rattle.std.proofs.Common.{◌≡◌, ℕ, ◌-◌, List, get_or, ℤ, pos, Some, None, Ok, Err, Option, Result, refl, ap, arith}
 use Rattle.std.proofs.lemmas.List.FromFn.{get_or-map-range_with_len}
 use Rattle.walk.specs.declared.flaw.Flaw.{Flaw}
 use Rattle.walk.specs.Flaws.{answering}

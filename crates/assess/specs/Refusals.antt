@@ -1,8 +1,8 @@
 -- The number and the place of each refusal, what it carries, and what a call answers by the law's words.
-use Rattle.std.specs.Prelude.{ℕ, Bool, ℤ, Some, None, Ok, Err, Option, Result}
+use Rattle.std.specs.Prelude.{ℕ, ℤ, Some, None, Ok, Err, Option, Result}
 use Rattle.walk.specs.declared.flaw.Flaw.{Flaw}
 use Rattle.walk.specs.declared.flaw.Flaw.TheVariants as flaws
-use Rattle.law.specs.Steps.{Carried, Answer, accepted, refused, balance_is, entry_is, Finding, clear, raises}
+use Rattle.law.specs.Steps.{Carried, Answer, accepted, refused, balance_is, Finding, clear, raises}
 use Rattle.assess.specs.declared.refusals.Refusal.{Refusal}
 use Rattle.assess.specs.declared.refusals.Refusal.TheVariants.{Size, NoSlot, Loads, Standing, ManyLines, Faulty, Unfit, Total, NoLoad, NoParty}
 use Rattle.assess.specs.declared.refusals.SlotFlaw.{SlotFlaw}

@@ -1,6 +1,6 @@
 // The lines of a settlement, and its charges.
 ghost use Rattle.std.specs.Prelude.{◌≡◌, ℕ, ◌-◌, ◌<◌, ◌≤◌, length, replicate, pos, neg_ℤ, IfOk, if◌then◌else◌, Ok, sum, OnOk, nat_lt, slice_index_or, unsigned_abs};
-ghost use Rattle.std.specs.List.{AllByRecursion as All};
+ghost use Rattle.std.specs.List.{AllByRecursion};
 ghost use Rattle.walk.specs.Totals.{total_of, sum_for};
 ghost use Rattle.law.specs.Settlements.{Among};
 ghost use Rattle.law.specs.Steps.{first};
@@ -64,7 +64,7 @@ pub fn charge<R: SharingRule>(rule: &R, total: i64, load: u64, loads: &[u32], ch
     requires summed { load ≡ sum loads.now }
     requires within { unsigned_abs total ≤ 5000000000 }
     requires few { length loads.now ≤ 64 }
-    requires small { All (λ l. l ≤ 20000000) loads.now }
+    requires small { AllByRecursion (λ l. l ≤ 20000000) loads.now }
     requires room { length loads.now ≤ length charged.old }
     ensures { (k : ℕ) → k < length loads.now → slice_index_or charged.new k (pos 0) ≡ (if nat_lt 0 (sum loads.now) then slice_index_or (R.SharingRule.meaning rule.now (neg_ℤ total) loads.now) k (pos 0) else pos 0) }
 {

@@ -1,12 +1,12 @@
 -- What the book answers of one slot.
-use Rattle.std.proofs.Common.{◌≡◌, ℕ, ◌+◌, ◌-◌, ◌*◌, ◌<◌, ◌≤◌, Bool, true, false, cond, ◌&&◌, List, get_or, ℤ, pos, ◌+ℤ◌, sym, refl, ap, ◌∙◌, subst}
+use Rattle.std.proofs.Common.{◌≡◌, ℕ, ◌+◌, ◌-◌, ◌*◌, true, false, ◌&&◌, List, get_or, ℤ, ◌+ℤ◌, sym, ap, subst}
 use Rattle.std.proofs.lemmas.Bool.{and_from}
 use Rattle.law.specs.Settlements.{Among, SlotOf, Book, zeros}
-use Rattle.law.specs.Steps.{answer, balance, balance_is, balance_in, balance_at, look, entry_is, among, entry_in}
+use Rattle.law.specs.Steps.{answer, balance, balance_is, balance_in, balance_at, look, entry_is, among}
 use Rattle.law.proofs.Table.{so_among}
 use Rattle.book.specs.declared.rows.Slot.{Slot}
 use Rattle.book.specs.declared.rows.Entry.{Entry}
-use Rattle.book.specs.Model.{means, off, blank, slot_at, entry_at, seen}
+use Rattle.book.specs.Model.{means, off, blank, slot_at, seen}
 
 pub balance_answered : (b : Book) (p : ℕ) (v : ℤ) → Among p b.parties → v ≡ balance_in b p → balance_is v ≡ answer b (balance p)
 balance_answered b p v a e = let q : among p b.parties ≡ true = so_among p b.parties a in rw (q, e)

@@ -1,14 +1,14 @@
 -- What the calls that write leave: the model, and the surplus.
-use Rattle.std.proofs.Common.{◌≡◌, ℕ, ◌+◌, ◌-◌, ◌*◌, ◌<◌, ◌≤◌, Bool, true, false, ◌≢◌, ◌⊎◌, List, length, get_or, set, ℤ, pos, Some, None, sym, refl, ap, ◌∙◌, subst, inl, inr, mul-le-mul_right, arith, length-set, get_or-set_other, get_or-set_same, Bor, MutBor}
+use Rattle.std.proofs.Common.{◌≡◌, ℕ, ◌+◌, ◌-◌, ◌*◌, ◌<◌, ◌≤◌, ◌≢◌, ◌⊎◌, List, length, get_or, set, ℤ, pos, Some, None, sym, refl, ap, ◌∙◌, subst, inr, mul-le-mul_right, arith, length-set, get_or-set_other, MutBor}
 use Rattle.law.specs.Settlements as words
 use Rattle.law.specs.Settlements.{Among, SlotOf, Settlement}
 use Rattle.law.specs.Steps.{HoldsNow, Fresh}
 use Rattle.book.specs.declared.ledger.Book.{Book}
 use Rattle.book.specs.declared.rows.Slot.{Slot}
 use Rattle.book.specs.declared.rows.Entry.{Entry}
-use Rattle.book.specs.Model.{means, blank, off, on, slot_at, seen, NowAt, Cleared, SurplusStays, entered, row}
-use Rattle.book.specs.Books.{model, SameSurplus, ButEntries, ButSlots, ClearsSlots, ClearsEntries, WritesRow}
-use Rattle.book.proofs.Places.{slot_under, fresh_cleared}
+use Rattle.book.specs.Model.{means, blank, off, on, slot_at, NowAt, Cleared, SurplusStays, entered, row}
+use Rattle.book.specs.Books.{model, SameSurplus, ButEntries, ClearsSlots, ClearsEntries}
+use Rattle.book.proofs.Places.{fresh_cleared}
 use Rattle.book.proofs.Settles.{settled, voided}
 
 pub none_moved : (slots entries : ℕ) (b : Book) → SameSurplus slots entries b b
@@ -17,10 +17,10 @@ none_moved slots entries b = record { slots_lent = refl; entries_lent = refl; sl
 -- ---- opening
 module _ (n m : ℕ) (b b1 b2 : Book) (s : ClearsSlots (3 * m) b b1) (e : ClearsEntries 0 (3 * m * n) b1 b2) where
   slots_cleared : Cleared off 0 (3 * m) b.slots.now b2.slots.now
-  slots_cleared = subst (λ (r : Bor (List Slot)). Cleared off 0 (3 * m) b.slots.now r.now) (sym e.rest.slots_same) s.rows
+  slots_cleared = subst (λ (r : MutBor (List Slot)). Cleared off 0 (3 * m) b.slots.now r.now) (sym e.rest.slots_same) s.rows
 
   entries_cleared : Cleared blank 0 (3 * m * n) b.entries.now b2.entries.now
-  entries_cleared = subst (λ (r : Bor (List Entry)). Cleared blank 0 (3 * m * n) r.now b2.entries.now) s.rest.entries_same e.rows
+  entries_cleared = subst (λ (r : MutBor (List Entry)). Cleared blank 0 (3 * m * n) r.now b2.entries.now) s.rest.entries_same e.rows
 
   pub opened_fresh : Among n 64 → Among m 100 → Fresh n m (means n m b2.slots.now b2.entries.now)
   opened_fresh a h = fresh_cleared n m b.slots.now b2.slots.now b.entries.now b2.entries.now a h slots_cleared entries_cleared
@@ -46,8 +46,8 @@ module _ (b b1 : Book) (k : ℕ) (rest : ButEntries b b1) where
 
   pub mark_surplus : (v : Slot) → k < 3 * b.intervals → SurplusStays off (3 * b.intervals) b.slots.now (set b1.slots.now k v)
   mark_surplus v lt = (
-    length-set b1.slots.now k v ∙ ap (λ (r : Bor (List Slot)). length r.now) rest.slots_same,
-    λ j h. let ne : j ≢ k = omega arith in get_or-set_other b1.slots.now k j v off ne ∙ ap (λ (r : Bor (List Slot)). get_or r.now j off) rest.slots_same,
+    length-set b1.slots.now k v ∙ ap (λ (r : MutBor (List Slot)). length r.now) rest.slots_same,
+    λ j h. let ne : j ≢ k = omega arith in get_or-set_other b1.slots.now k j v off ne ∙ ap (λ (r : MutBor (List Slot)). get_or r.now j off) rest.slots_same,
   )
 
   pub row_surplus : k < 3 * b.intervals → ((j : ℕ) → (j < k * b.parties) ⊎ (k * b.parties + b.parties ≤ j) → get_or b1.entries.now j blank ≡ get_or b.entries.now j blank) → SurplusStays blank (3 * b.intervals * b.parties) b.entries.now b1.entries.now

@@ -1,7 +1,7 @@
 -- What a settle and a void leave.
-use Rattle.std.proofs.Common.{◌≡◌, ℕ, ◌+◌, ◌-◌, ◌*◌, ◌<◌, ◌≤◌, Bool, true, false, ◌&&◌, eqb, ◌≢◌, ◌⊎◌, List, length, get_or, set, Some, None, Option, sym, refl, ap, ◌∙◌, subst, inl, inr, arith, get_or-set_other, get_or-set_same}
+use Rattle.std.proofs.Common.{◌≡◌, ℕ, ◌-◌, ◌*◌, ◌<◌, ◌≤◌, Bool, true, false, ◌&&◌, eqb, List, length, set, Some, None, Option, refl, ap, arith, get_or-set_other, get_or-set_same}
 use Rattle.std.proofs.lemmas.Bool.{and_from, eq-eqb, both_ways}
-use Rattle.law.specs.Settlements.{Among, SlotOf, Settlement, Book, Lawful, posted}
+use Rattle.law.specs.Settlements.{SlotOf, Settlement, Book, Lawful}
 use Rattle.law.specs.Steps.{Carried, HoldsNow, Step, accepted, refused, told, first, checks, void_checks, among}
 use Rattle.law.proofs.Table.{so_among}
 use Rattle.book.specs.declared.rows.Slot.{Slot}

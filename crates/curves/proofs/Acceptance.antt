@@ -1,5 +1,5 @@
 -- The test of a submitted row says whether it is sound.
-use Rattle.std.proofs.Common.{◌≡◌, ℕ, zero, suc, ◌-◌, ◌<◌, ◌≤◌, Bool, true, false, ◌&&◌, ◌||◌, leb, List, ℤ, pos, negsuc, ◌≤ℤ◌, ◌<ℤ◌, Decides, refl, arith}
+use Rattle.std.proofs.Common.{◌≡◌, ℕ, zero, suc, ◌-◌, ◌<◌, ◌≤◌, Bool, true, false, ◌||◌, leb, List, ℤ, pos, negsuc, ◌≤ℤ◌, ◌<ℤ◌, Decides, refl, arith}
 use borrow.Author.Differences.{ints}
 use lib.Signed.{lt_z, le_z}
 use Rattle.std.proofs.lemmas.Bool.Decides.{Decides-and, Decides-like, Decides-below_and, nat_tests}

@@ -1,15 +1,15 @@
 -- A sound row completes to a curve's points.
-use Rattle.std.proofs.Common.{◌≡◌, ℕ, zero, suc, ◌+◌, ◌-◌, ◌<◌, ◌≤◌, Bool, true, false, cond, List, [], ◌∷◌, ◌++◌, length, get_or, take, ℤ, pos, negsuc, ◌-ℤ◌, ◌≤ℤ◌, ◌<ℤ◌, sym, refl, ap, ◌∙◌, subst, ⊎_elim, append_assoc, append-nil, eq-or-lt_of_le, add-one, arith}
+use Rattle.std.proofs.Common.{◌≡◌, ℕ, zero, suc, ◌+◌, ◌-◌, ◌<◌, Bool, true, false, cond, List, [], ◌∷◌, ◌++◌, length, ℤ, pos, negsuc, ◌-ℤ◌, ◌≤ℤ◌, ◌<ℤ◌, sym, refl, subst, ⊎_elim, append_assoc, append-nil, eq-or-lt_of_le, arith}
 use borrow.Author.Differences.{ints}
 use lib.Signed.{lt_z, ≤ℤ_refl}
 use Rattle.std.specs.Int.{int_min}
-use Rattle.std.proofs.lemmas.Int.{int_min_is, clamps}
+use Rattle.std.proofs.lemmas.Int.{clamps}
 use Rattle.std.proofs.lemmas.List.{length-append, get_or_append_left, get_or_push, length-take-le, get_or-take}
 use Rattle.curves.specs.declared.points.Point.{Point}
 use Rattle.curves.specs.declared.points.SubmittedCurve.{SubmittedCurve}
 use Rattle.curves.specs.Shape.{at, point, Rising, Inside, InLimits, Shaped}
 use Rattle.curves.specs.Submission.{listed}
-use Rattle.curves.specs.Completion.{low_end, step_up, high_end, completed}
+use Rattle.curves.specs.Completion.{step_up, high_end, completed}
 use Rattle.curves.proofs.Soundness.{Sound}
 
 -- one more in front

@@ -1,5 +1,5 @@
 -- The line between two points.
-use Rattle.std.proofs.Common.{◌≡◌, ℕ, zero, suc, ◌+◌, ◌-◌, ◌*◌, ◌<◌, ◌≤◌, ℤ, pos, negsuc, ◌+ℤ◌, ◌-ℤ◌, ◌*ℤ◌, nat_abs, ◌≤ℤ◌, ◌<ℤ◌, sym, refl, ap, ◌∙◌, add-mul, mul-le-mul, mul-add, arith, w32, w64, SFits, to_z, of_z}
+use Rattle.std.proofs.Common.{◌≡◌, ℕ, ◌+◌, ◌<◌, ◌≤◌, ℤ, pos, ◌+ℤ◌, ◌-ℤ◌, ◌*ℤ◌, nat_abs, ◌≤ℤ◌, ◌<ℤ◌, sym, ap, ◌∙◌, mul-le-mul, mul-add, arith, w32, to_z, of_z}
 use borrow.Author.Differences.{ints, up, down}
 use Rattle.rounding.specs.Nearest.{nearest_to, Nearest}
 use Rattle.numbers.proofs.Integers.{scaled, scaled_le, abs_scaled}

@@ -1,12 +1,12 @@
 -- What a curve reads, by places.
-use Rattle.std.proofs.Common.{◌≡◌, ℕ, zero, suc, ◌+◌, ◌-◌, ◌<◌, ◌≤◌, Bool, true, false, cond, ◌⊎◌, List, [], ◌∷◌, length, get_or, drop, ℤ, pos, negsuc, nat_abs, ◌≤ℤ◌, ◌<ℤ◌, sym, refl, ap, ◌∙◌, subst, inl, inr, ⊎_elim, add-one, arith}
+use Rattle.std.proofs.Common.{◌≡◌, ℕ, zero, suc, ◌+◌, ◌-◌, ◌<◌, ◌≤◌, true, false, cond, ◌⊎◌, List, [], ◌∷◌, length, drop, ℤ, pos, ◌≤ℤ◌, ◌<ℤ◌, sym, refl, ap, ◌∙◌, inl, inr, ⊎_elim, add-one, arith}
 use borrow.Author.Differences.{ints}
 use lib.Signed.{lt_z, le_z}
 use Rattle.std.proofs.lemmas.Int.{by_lt_z}
 use Rattle.std.proofs.lemmas.List.{drop_more, drop_all}
 use Rattle.curves.specs.declared.points.Point.{Point}
 use Rattle.curves.specs.Shape.{at, point, Rising}
-use Rattle.curves.specs.Reading.{apart, line_times, line, beyond, reads, Reads}
+use Rattle.curves.specs.Reading.{line, beyond, reads, Reads}
 use Rattle.curves.proofs.Lines.{line_start, line_nearest, line_only}
 
 -- a test and what it picks

@@ -1,5 +1,5 @@
 -- What the law says of the balances of a book of three parties.
-use Rattle.std.proofs.Common.{◌≡◌, ℕ, List, [], ◌∷◌, ℤ, pos, ◌+ℤ◌, sym, refl, ap, ◌∙◌, subst, arith}
+use Rattle.std.proofs.Common.{◌≡◌, ℕ, List, ℤ, pos, ◌+ℤ◌, ap, arith}
 use Rattle.std.proofs.lemmas.Int.{ints}
 use Rattle.law.specs.Settlements.{Book, over}
 use Rattle.law.specs.Steps.{answer, balance, balance_is}

@@ -1,5 +1,5 @@
 -- The shares of 100 over three equal loads.
-use Rattle.std.proofs.Common.{◌≡◌, ℕ, ◌+◌, ◌*◌, ◌/◌, ◌%◌, ◌≤◌, true, ltb, [], ◌∷◌, ℤ, pos, negsuc, refl, arith}
+use Rattle.std.proofs.Common.{◌≡◌, ℕ, ◌+◌, ◌*◌, ◌/◌, ◌%◌, ◌≤◌, true, ltb, pos, negsuc, arith}
 use native.Mathlib.Nat.{div-eq_of_lt-le, div-add-mod}
 use Rattle.std.proofs.lemmas.Bool.{lt-ltb}
 use Rattle.numbers.specs.Signs.{signed_by}

@@ -1,5 +1,5 @@
 -- Three equal loads, one line of -100 for the first party.
-use Rattle.std.specs.Prelude.{ℕ, List, [], ◌∷◌, ℤ, pos, negsuc, ◌+ℤ◌, slice_index_or}
+use Rattle.std.specs.Prelude.{ℕ, [], ◌∷◌, ℤ, pos, negsuc, ◌+ℤ◌, slice_index_or}
 use Rattle.law.specs.Settlements.{Rule}
 
 -- the three balances under a rule: the first party receives 100, and each is charged its share of 100

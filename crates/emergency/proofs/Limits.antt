@@ -1,12 +1,11 @@
 -- What the field checks leave, and so the limits of every slice.
-use Rattle.std.proofs.Common.{◌≡◌, ℕ, zero, suc, ◌+◌, ◌<◌, ◌≤◌, Bool, true, false, cond, ◌||◌, ltb, List, [], ◌∷◌, map, length, get_or, take, ℤ, pos, negsuc, nat_abs, ◌≤ℤ◌, fold, sym, refl, ap, subst, ⊎_elim, zero-add, arith}
+use Rattle.std.proofs.Common.{◌≡◌, ℕ, ◌+◌, ◌<◌, ◌≤◌, Bool, true, false, cond, ◌||◌, ltb, List, [], ◌∷◌, length, get_or, take, ℤ, pos, negsuc, nat_abs, ◌≤ℤ◌, fold, sym, refl, subst, ⊎_elim, zero-add, arith}
 use borrow.Author.Differences.{ints}
 use lib.Signed.{lt_z}
-use Rattle.std.specs.List.{range_with_len, AllByRecursion as All}
+use Rattle.std.specs.List.{range_with_len, AllByRecursion}
 use Rattle.std.proofs.lemmas.List.FromFn.{length-range_with_len, get_or-range_with_len}
 use Rattle.std.proofs.ByRecursion.{All-get_or, All-map, All-from_get_or}
 use Rattle.std.proofs.lemmas.List.{get_or-take, get_or_past}
-use Rattle.std.proofs.lemmas.Int.{clamps}
 use Rattle.std.proofs.lemmas.Bool.{cases_lt, or_parts, ltb-false}
 use Rattle.numbers.proofs.Integers.{lt_z_false}
 use Rattle.curves.specs.declared.points.Point.{Point}
@@ -28,7 +27,7 @@ inside : (low high x : ℤ) → outside low high x ≡ false → (low ≤ℤ x) 
 inside low high x e = let p = or_parts (lt_z x low) (lt_z high x) e in (lt_z_false x low p.0, lt_z_false high x p.1)
 
 -- a search that found none passed each
-none_of : {X : Type 0} (p : X → Bool) (xs : List X) (a : Bool) → fold (λ b x. b || p x) a xs ≡ false → (a ≡ false) × All (λ x. p x ≡ false) xs
+none_of : {X : Type 0} (p : X → Bool) (xs : List X) (a : Bool) → fold (λ b x. b || p x) a xs ≡ false → (a ≡ false) × AllByRecursion (λ x. p x ≡ false) xs
 none_of p [] a e = (e, tt)
 none_of p (x ∷ xs) a e =
     let rest = none_of p xs (a || p x) e in
@@ -73,7 +72,7 @@ fitting m row e =
       capped = k.1;
     }
 
-pub sliced_limited : (ps : List Point) (seconds : List ℕ) (row : EmergencyRow) → All Cheap ps → Lasting seconds → Fitting (length seconds) row → All Limited (sliced ps row.cap seconds row.bases)
+pub sliced_limited : (ps : List Point) (seconds : List ℕ) (row : EmergencyRow) → AllByRecursion Cheap ps → Lasting seconds → Fitting (length seconds) row → AllByRecursion Limited (sliced ps row.cap seconds row.bases)
 unfolding sliced
 sliced_limited ps seconds row cheap lasting fit =
     let f : ℕ → Slice = λ k. slice (get_or seconds k 0) (get_or row.bases k (pos 0)) (price_at ps row.cap (get_or row.bases k (pos 0))) in

@@ -1,19 +1,16 @@
 -- What the limits of the slices and fields give: prices within 1,000,000, energies within 500,000, so amounts and bases within theirs.
-use Rattle.std.proofs.Common.{◌≡◌, ℕ, ◌+◌, ◌*◌, ◌<◌, ◌≤◌, true, false, cond, ◌||◌, List, [], ◌∷◌, ℤ, pos, negsuc, ◌+ℤ◌, ◌-ℤ◌, ◌*ℤ◌, nat_abs, ◌≤ℤ◌, fold, sum_by, subst, mul-le-mul_right, mul_assoc, mul-le-mul, mul-le-mul_left, arith}
+use Rattle.std.proofs.Common.{ℕ, ◌+◌, ◌*◌, ◌≤◌, List, [], ◌∷◌, ℤ, pos, negsuc, ◌+ℤ◌, ◌-ℤ◌, ◌*ℤ◌, nat_abs, ◌≤ℤ◌, fold, sum_by, subst, mul-le-mul_right, mul-le-mul, arith}
 use borrow.Author.Differences.{ints}
-use lib.Signed.{lt_z}
-use Rattle.std.specs.Int.{int_min, int_max}
-use Rattle.std.specs.List.{AllByRecursion as All}
+use Rattle.std.specs.Int.{int_min}
+use Rattle.std.specs.List.{AllByRecursion}
 use Rattle.std.proofs.lemmas.Int.{clamps}
 use Rattle.std.proofs.lemmas.List.Sums.{sum_by-cons}
-use Rattle.std.proofs.lemmas.Bool.{cond_both, both_ways}
-use Rattle.rounding.specs.Nearest.{nearest_to}
+use Rattle.std.proofs.lemmas.Bool.{cond_both}
 use Rattle.numbers.proofs.Integers.{abs_scaled, abs_times}
 use Rattle.rounding.proofs.Laws.{nearest_within}
 use Rattle.emergency.specs.declared.slices.Slice.{Slice}
 use Rattle.emergency.specs.declared.slices.Side.{Side}
 use Rattle.emergency.specs.declared.slices.Side.TheVariants.{Above, Below}
-use Rattle.numbers.specs.Sums.{signed_sum}
 use Rattle.emergency.specs.Energy.{some, mean_price, discharged, charged, due, amount, basis}
 use Rattle.emergency.specs.Weights.{weight_of, Limited}
 use Rattle.emergency.proofs.Weights.{weights_some, quotient_is}
@@ -22,13 +19,13 @@ use Rattle.emergency.proofs.Weights.{weights_some, quotient_is}
 term_small : (side : Side) (x : Slice) → Limited x → nat_abs (x.price *ℤ pos (weight_of side x)) ≤ 1000000 * weight_of side x
 term_small side x h = omega (arith, abs_scaled x.price (weight_of side x), mul-le-mul_right (weight_of side x) h.3)
 
-sum_small : (side : Side) (xs : List Slice) (a : ℤ) → All Limited xs →
+sum_small : (side : Side) (xs : List Slice) (a : ℤ) → AllByRecursion Limited xs →
     nat_abs (fold (λ b x. b +ℤ x.price *ℤ pos (weight_of side x)) a xs) ≤ nat_abs a + 1000000 * sum_by (weight_of side) xs
 sum_small side [] a h = omega arith
 sum_small side (x ∷ xs) a h =
     omega (arith, ints, sum_small side xs (a +ℤ x.price *ℤ pos (weight_of side x)) h.1, sum_by-cons (weight_of side) x xs, term_small side x h.0)
 
-pub mean_small : (side : Side) (xs : List Slice) → All Limited xs → nat_abs (mean_price side xs) ≤ 1000000
+pub mean_small : (side : Side) (xs : List Slice) → AllByRecursion Limited xs → nat_abs (mean_price side xs) ≤ 1000000
 unfolding mean_price
 mean_small side xs h =
     cond_both (some side xs) _ (pos 0) (λ z. nat_abs z ≤ 1000000)
@@ -52,7 +49,7 @@ cut_small : (a b c : ℤ) → nat_abs a ≤ 500000000000 → nat_abs b ≤ 50000
 cut_small a b c h i j = omega (arith, ints, clamps)
 
 module _ (spp : ℤ) (g : ℕ) (c : ℤ) (xs : List Slice) (fspp : nat_abs spp ≤ 1000000) (fg : g ≤ 500000)
-    (fc : negsuc 499999 ≤ℤ c) (fc0 : c ≤ℤ pos 0) (each : All Limited xs) where
+    (fc : negsuc 499999 ≤ℤ c) (fc0 : c ≤ℤ pos 0) (each : AllByRecursion Limited xs) where
   e_small : nat_abs (discharged g xs) ≤ 500000
   e_small = omega (arith, ints, discharged_within g xs)
 

@@ -1,7 +1,6 @@
 -- One term of a sum over the slices.
 use Rattle.std.proofs.Common.{◌≡◌, ℕ, ◌+◌, ◌*◌, ◌<◌, ◌≤◌, List, length, get_or, take, ℤ, pos, ◌+ℤ◌, ◌*ℤ◌, nat_abs, ap, ◌∙◌, mul-le-mul, mul-add, arith, w32, w64, SFits, to_z, of_z}
 use borrow.Author.Differences.{ints}
-use Rattle.std.specs.Int.{int_min, int_max}
 use Rattle.std.proofs.lemmas.Int.{to_z-of_z, clamps}
 use Rattle.std.proofs.lemmas.List.Sums.{fold_more}
 use Rattle.numbers.proofs.Integers.{abs_scaled}

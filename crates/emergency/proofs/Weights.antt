@@ -1,10 +1,8 @@
 -- The signed weights of the rule, tied to the magnitudes that the code adds up.
-use Rattle.std.proofs.Common.{◌≡◌, ℕ, zero, suc, ◌+◌, ◌*◌, ◌<◌, ◌≤◌, true, false, cond, List, [], ◌∷◌, ℤ, pos, negsuc, ◌+ℤ◌, ◌*ℤ◌, neg_ℤ, nat_abs, sum_by, sym, refl, ap, ◌∙◌, mul-le-mul, arith}
+use Rattle.std.proofs.Common.{◌≡◌, ℕ, zero, suc, ◌<◌, ◌≤◌, true, false, List, [], ◌∷◌, ℤ, pos, ◌+ℤ◌, ◌*ℤ◌, neg_ℤ, nat_abs, sum_by, sym, refl, ap, ◌∙◌, mul-le-mul, arith}
 use borrow.Author.Differences.{ints}
 use lib.IntN.{neg_ℤ-neg_ℤ, neg_ℤ-+ℤ, *ℤ-negsuc}
-use lib.Signed.{lt_z}
-use Rattle.std.specs.Int.{int_min, int_max}
-use Rattle.std.specs.List.{AllByRecursion as All}
+use Rattle.std.specs.List.{AllByRecursion}
 use Rattle.std.proofs.lemmas.Int.{clamps}
 use Rattle.std.proofs.lemmas.List.Sums.{sum_by-cons}
 use Rattle.std.proofs.lemmas.Bool.{both_ways}
@@ -15,7 +13,7 @@ use Rattle.rounding.specs.Nearest.{nearest_to, nearest_over}
 use Rattle.emergency.specs.declared.slices.Slice.{Slice}
 use Rattle.emergency.specs.declared.slices.Side.{Side}
 use Rattle.emergency.specs.declared.slices.Side.TheVariants.{Above, Below}
-use Rattle.emergency.specs.Energy.{lies, some, reach, weight, mean_price}
+use Rattle.emergency.specs.Energy.{some, reach, weight}
 use Rattle.emergency.specs.Weights.{weight_of, Limited}
 
 -- a slice counts
@@ -26,7 +24,7 @@ reach_some Below x = omega (arith, ints, clamps)
 pub weight_some : (side : Side) (x : Slice) → Limited x → 1 ≤ weight_of side x
 weight_some side x h = omega (arith, mul-le-mul (reach_some side x) h.0)
 
-pub weights_some : (side : Side) (xs : List Slice) → All Limited xs → some side xs ≡ true → 0 < sum_by (weight_of side) xs
+pub weights_some : (side : Side) (xs : List Slice) → AllByRecursion Limited xs → some side xs ≡ true → 0 < sum_by (weight_of side) xs
 weights_some side [] h e = absurd (both_ways false refl e)
 weights_some side (x ∷ xs) h e = omega (arith, sum_by-cons (weight_of side) x xs, weight_some side x h.0)
 

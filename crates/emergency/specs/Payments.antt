@@ -6,7 +6,6 @@ use Rattle.curves.specs.Reading.{price_at}
 use Rattle.emergency.specs.declared.row.EmergencyRow.{EmergencyRow}
 use Rattle.emergency.specs.declared.row.RowFault.{RowFault}
 use Rattle.emergency.specs.declared.row.RowFault.TheVariants.{Outside}
-use Rattle.emergency.specs.declared.payment.Leg.{Leg}
 use Rattle.emergency.specs.declared.payment.Payment.{Payment}
 use Rattle.emergency.specs.declared.slices.Slice.{Slice}
 use Rattle.emergency.specs.declared.slices.Side.TheVariants.{Above, Below}

@@ -1,6 +1,6 @@
 // Prices, energies and the amount from the slices.
 ghost use Rattle.std.specs.Prelude.{◌≡◌, ℕ, ◌≤◌, length, ℤ, pos, negsuc, ◌-ℤ◌, ◌≤ℤ◌, unsigned_abs};
-ghost use Rattle.std.specs.List.{AllByRecursion as All};
+ghost use Rattle.std.specs.List.{AllByRecursion};
 ghost use Rattle.curves.specs.Curves.{points_of};
 ghost use Rattle.quarters.specs.Slices.{IsQuarter};
 ghost use Rattle.quarters.specs.Quarters.{slices_of};
@@ -41,7 +41,7 @@ pub struct Payment {
 // W above zero, V below.
 fn mean_price(slices: &[Slice], side: Side) -> i64
     requires few { length slices.now ≤ 15 }
-    requires each { All Limited slices.now }
+    requires each { AllByRecursion Limited slices.now }
     ensures value { result ≡ mean_price side slices.now }
     ensures small { unsigned_abs result ≤ 1000000 }
 {
@@ -55,7 +55,7 @@ fn mean_price(slices: &[Slice], side: Side) -> i64
 // The energy of the base points on one side.
 fn scheduled(slices: &[Slice], side: Side) -> i64
     requires few { length slices.now ≤ 15 }
-    requires each { All Limited slices.now }
+    requires each { AllByRecursion Limited slices.now }
     ensures { result ≡ scheduled_on side slices.now }
 {
     nearest(worked(slices, side), 3600)
@@ -64,7 +64,7 @@ fn scheduled(slices: &[Slice], side: Side) -> i64
 // E: no more than was generated.
 fn discharged(slices: &[Slice], generation: u32) -> i64
     requires few { length slices.now ≤ 15 }
-    requires each { All Limited slices.now }
+    requires each { AllByRecursion Limited slices.now }
     requires most { generation ≤ 500000 }
     ensures value { result ≡ discharged_of generation slices.now }
     ensures range { (pos 0 ≤ℤ result) × (result ≤ℤ pos 500000) }
@@ -79,7 +79,7 @@ fn discharged(slices: &[Slice], generation: u32) -> i64
 // D: no more than was charged.
 fn charged(slices: &[Slice], charging: i32) -> i64
     requires few { length slices.now ≤ 15 }
-    requires each { All Limited slices.now }
+    requires each { AllByRecursion Limited slices.now }
     requires least { negsuc 499999 ≤ℤ charging }
     requires below { charging ≤ℤ pos 0 }
     ensures value { result ≡ charged_of charging slices.now }
@@ -114,7 +114,7 @@ fn moved(e: i64, d: i64) -> u32
 // What the slices are paid.
 fn reckon(slices: &[Slice], spp: i32, generation: u32, charging: i32) -> Payment
     requires few { length slices.now ≤ 15 }
-    requires each { All Limited slices.now }
+    requires each { AllByRecursion Limited slices.now }
     requires point { unsigned_abs spp ≤ 1000000 }
     requires most { generation ≤ 500000 }
     requires least { negsuc 499999 ≤ℤ charging }

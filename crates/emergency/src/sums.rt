@@ -1,6 +1,6 @@
 // The sums over the slices, for either side of zero.
 ghost use Rattle.std.specs.Prelude.{◌≡◌, ℕ, ◌≤◌, length, pos, ◌*ℤ◌, sum_by, unsigned_abs};
-ghost use Rattle.std.specs.List.{AllByRecursion as All};
+ghost use Rattle.std.specs.List.{AllByRecursion};
 ghost use Rattle.numbers.specs.Sums.{signed_sum};
 ghost use Rattle.emergency.specs.Energy.{lies, some, reach as reach_on, power as power_on};
 ghost use Rattle.emergency.specs.Weights.{weight_of, Limited};
@@ -63,7 +63,7 @@ pub(crate) fn any_on(slices: &[Slice], side: Side) -> bool
 // The sum of the weights.
 pub(crate) fn weights(slices: &[Slice], side: Side) -> u64
     requires few { length slices.now ≤ 15 }
-    requires each { All Limited slices.now }
+    requires each { AllByRecursion Limited slices.now }
     ensures { result ≡ sum_by (weight_of side) slices.now }
 {
     let mut all: u64 = 0;
@@ -76,7 +76,7 @@ pub(crate) fn weights(slices: &[Slice], side: Side) -> u64
 // The sum of the prices, each by its weight.
 pub(crate) fn priced(slices: &[Slice], side: Side) -> i64
     requires few { length slices.now ≤ 15 }
-    requires each { All Limited slices.now }
+    requires each { AllByRecursion Limited slices.now }
     ensures { result ≡ signed_sum (λ x. x.price *ℤ pos (weight_of side x)) slices.now }
 {
     let mut all: i64 = 0;
@@ -89,7 +89,7 @@ pub(crate) fn priced(slices: &[Slice], side: Side) -> i64
 // The sum of the powers, each as long as it lasts.
 pub(crate) fn worked(slices: &[Slice], side: Side) -> i64
     requires few { length slices.now ≤ 15 }
-    requires each { All Limited slices.now }
+    requires each { AllByRecursion Limited slices.now }
     ensures { result ≡ signed_sum (λ x. power_on side x *ℤ pos x.seconds) slices.now }
 {
     let mut all: i64 = 0;

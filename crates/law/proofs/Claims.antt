@@ -1,15 +1,14 @@
 -- The three claims from what the book is held to keep.
-use Rattle.std.proofs.Common.{◌≡◌, ℕ, zero, suc, ◌+◌, ◌-◌, ◌<◌, ◌≤◌, Bool, true, false, cond, not, ◌&&◌, eqb, ltb, ◌⊎◌, List, [], ◌∷◌, map, length, get_or, ℤ, pos, ◌+ℤ◌, ◌*ℤ◌, neg_ℤ, nat_abs, ◌≤ℤ◌, is_some, IfSome, Some, None, fold, sum, Option, sym, refl, ap, ◌∙◌, subst, inl, inr, arith}
+use Rattle.std.proofs.Common.{◌≡◌, ℕ, ◌-◌, ◌<◌, Bool, true, false, cond, ltb, List, get_or, pos, ◌+ℤ◌, ◌*ℤ◌, is_some, IfSome, Some, None, Option, refl, ap, ◌∙◌, arith}
 use Rattle.std.proofs.lemmas.Int.{ints}
-use Rattle.std.proofs.lemmas.Bool.{and_parts, eqb-true, ltb-true, ltb-false, lt-ltb, cases_Bool}
+use Rattle.std.proofs.lemmas.Bool.{ltb-true, ltb-false, lt-ltb}
 use Rattle.sharing.specs.Rules.{Asked, Fair}
-use Rattle.walk.specs.Totals.{total_of}
-use Rattle.law.specs.Settlements.{Among, apart, SlotOf, Settlement, Book, posted, over, over_slots, all_load, load_of, paid_out, source_lines, charge_of}
-use Rattle.law.specs.Steps.{Call, settle, restate, void, balance, Answer, accepted, refused, balance_is, answer, balance_in, told_balance, holds_or, among, first, checks, void_checks}
-use Rattle.law.specs.Runs.{Met, Run, standing, due, owed, one_if, how_many, balance_told, Balanced, WithinACent, Alike, Law, RunLaw}
-use Rattle.law.proofs.Totals.{over_same, over_add, over_none, over_items, slots_same, slots_none, slots_near, slots_swap, one_cent}
+use Rattle.law.specs.Settlements.{Among, apart, Settlement, Book, posted, over, over_slots, all_load, load_of, paid_out, source_lines, charge_of}
+use Rattle.law.specs.Steps.{balance, balance_is, answer, balance_in, among}
+use Rattle.law.specs.Runs.{Met, standing, due, owed, balance_told, Balanced, WithinACent}
+use Rattle.law.proofs.Totals.{over_same, over_add, over_none, over_items, slots_same, slots_none, slots_swap}
 use Rattle.law.proofs.Table.{Sound, so_among, lines_add_up}
-use Rattle.law.proofs.Held.{Held, held}
+use Rattle.law.proofs.Held.{Held}
 
 -- (a), each balance
 due_kept : (o : Option Settlement) (p : ℕ) → cond (is_some o) ((posted o p).paid +ℤ (posted o p).charged) (pos 0) ≡ due p o

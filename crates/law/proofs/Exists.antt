@@ -1,8 +1,8 @@
 -- Every call on every book has a step, and one only: the law is not empty, and what a call answers and leaves depends on its meaning alone.
-use Rattle.std.proofs.Common.{◌≡◌, ℕ, Bool, true, false, cond, ◌&&◌, eqb, ◌⊎◌, is_some, Some, None, Option, sym, refl, ap, ◌∙◌, subst, inl, inr}
+use Rattle.std.proofs.Common.{◌≡◌, ℕ, Bool, true, false, cond, ◌&&◌, eqb, is_some, Some, None, Option, sym, refl, ap, ◌∙◌, subst}
 use Rattle.std.proofs.lemmas.Bool.{eq-eqb, and_from, and_parts, eqb-true}
 use Rattle.law.specs.Settlements.{Among, SlotOf, Settlement, Book, posted}
-use Rattle.law.specs.Steps.{Call, settle, restate, void, balance, Answer, accepted, refused, balance_is, look, entry_is, answer, HoldsNow, Left, Leaves, Step, BringsLawful}
+use Rattle.law.specs.Steps.{Call, settle, restate, void, balance, Answer, accepted, refused, balance_is, look, entry_is, answer, HoldsNow, Left, Leaves}
 use Rattle.law.specs.Runs.{Agree, StepExists, StepOne}
 
 abbrev pub held_next : Book → ℕ → ℕ → Option Settlement → Book

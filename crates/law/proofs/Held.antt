@@ -1,10 +1,10 @@
 -- The book keeps what the list of calls and answers says.
-use Rattle.std.proofs.Common.{◌≡◌, ℕ, zero, suc, ◌+◌, ◌-◌, ◌<◌, ◌≤◌, Bool, true, false, cond, not, ◌&&◌, eqb, ◌⊎◌, List, [], ◌∷◌, is_some, IfSome, Some, None, Option, sym, refl, ap, ◌∙◌, subst, inl, inr, arith}
-use Rattle.std.proofs.lemmas.Bool.{and_parts, eqb-true, cases_Bool}
+use Rattle.std.proofs.Common.{◌≡◌, ℕ, Bool, true, false, cond, ◌&&◌, eqb, List, [], ◌∷◌, is_some, IfSome, Some, None, Option, sym, refl, ◌∙◌, subst, arith}
+use Rattle.std.proofs.lemmas.Bool.{and_parts, eqb-true}
 use Rattle.law.specs.Settlements.{Among, SlotOf, Settlement, Book, posted, Lawful}
 use Rattle.law.specs.Steps.{Call, settle, restate, void, balance, Answer, accepted, refused, balance_is, look, entry_is, answer, HoldsNow, Left, BringsLawful, Step, Fresh, first, checks, void_checks}
 use Rattle.law.specs.Runs.{Met, Run, Leads, standing, took, about, brings}
-use Rattle.law.proofs.Table.{Sound, checks_so, void_so, told_so}
+use Rattle.law.proofs.Table.{Sound, checks_so, told_so}
 
 abbrev pub All-sound : ℕ → ℕ → (ℕ → ℕ → Option Settlement) → Type 0
 All-sound n m st = (t i : ℕ) → IfSome (st t i) (Sound n m t i)

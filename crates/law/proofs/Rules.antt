@@ -1,15 +1,15 @@
 -- Another sharing rule changes no verdict, and no balance by more than a cent for each standing settlement.
-use Rattle.std.proofs.Common.{◌≡◌, ℕ, zero, suc, ◌+◌, ◌-◌, ◌<◌, ◌≤◌, Bool, true, false, cond, not, ◌&&◌, eqb, ltb, List, [], ◌∷◌, map, length, get_or, ℤ, pos, ◌+ℤ◌, ◌*ℤ◌, neg_ℤ, nat_abs, ◌≤ℤ◌, is_some, IfSome, Some, None, sum, Option, sym, refl, ap, ◌∙◌, subst, arith}
+use Rattle.std.proofs.Common.{◌≡◌, ℕ, ◌<◌, ◌≤◌, Bool, true, false, cond, ◌&&◌, eqb, ltb, List, [], ◌∷◌, map, ℤ, pos, ◌≤ℤ◌, is_some, IfSome, Some, None, sum, Option, sym, refl, ap, ◌∙◌, subst, arith}
 use Rattle.std.proofs.lemmas.Int.{ints}
-use Rattle.std.proofs.lemmas.Bool.{ltb-true, ltb-false}
+use Rattle.std.proofs.lemmas.Bool.{ltb-true}
 use Rattle.charges.specs.Lines.{Line}
-use Rattle.walk.specs.Totals.{total_of, sum_for}
-use Rattle.law.specs.Settlements.{Among, apart, SlotOf, Settlement, Book, Entries, zeros, over, over_slots, all_load, load_of, paid_out, source_lines, charge_of}
+use Rattle.walk.specs.Totals.{sum_for}
+use Rattle.law.specs.Settlements.{Among, apart, SlotOf, Settlement, Book, Entries, zeros, all_load, load_of, paid_out, source_lines, charge_of}
 use Rattle.law.specs.Steps.{Call, settle, restate, void, balance, look, Answer, accepted, refused, balance_is, entry_is, answer, told, told_balance, told_entry, entry_checks, holds_or, among, both, first, checks, void_checks, Finding, clear, raises, Fresh}
-use Rattle.law.specs.Runs.{Met, Run, Leads, standing, took, about, brings, due, owed, one_if, how_many, balance_told, Plain, settles, restates, voids, asks, looks, plain, Verdict, accepts, refuses, answers, verdict, Alike}
+use Rattle.law.specs.Runs.{Met, Run, Leads, standing, took, about, brings, due, one_if, Plain, settles, restates, voids, asks, looks, plain, Verdict, accepts, refuses, answers, verdict, Alike}
 use Rattle.law.proofs.Totals.{slots_near, one_cent}
 use Rattle.law.proofs.Table.{Sound, slot_so}
-use Rattle.law.proofs.Held.{Held, held}
+use Rattle.law.proofs.Held.{held}
 use Rattle.law.proofs.Claims.{each_owed, charge_near}
 
 -- a settlement but for its rule

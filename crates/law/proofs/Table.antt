@@ -1,8 +1,8 @@
 -- What the table of refusals lets through.
-use Rattle.std.proofs.Common.{◌≡◌, ℕ, zero, suc, ◌+◌, ◌-◌, ◌<◌, ◌≤◌, Bool, true, false, cond, not, ◌&&◌, eqb, ltb, leb, List, [], ◌∷◌, length, get_or, ℤ, pos, ◌+ℤ◌, nat_abs, Some, None, Ok, Err, fold, sum, Option, sym, refl, ap, ◌∙◌, arith}
-use Rattle.std.specs.List.{AllByRecursion as All}
+use Rattle.std.proofs.Common.{◌≡◌, ℕ, suc, ◌+◌, ◌≤◌, Bool, true, false, cond, ◌&&◌, eqb, ltb, leb, List, [], ◌∷◌, length, ℤ, pos, ◌+ℤ◌, nat_abs, Some, None, Ok, Err, sum, Option, sym, refl, arith}
+use Rattle.std.specs.List.{AllByRecursion}
 use Rattle.std.proofs.lemmas.Int.{ints}
-use Rattle.std.proofs.lemmas.Bool.{and_parts, leb-true, ltb-true, ltb-false, eqb-true, cases_Bool, lt-ltb, le-ltb, le-leb, and_from}
+use Rattle.std.proofs.lemmas.Bool.{and_parts, leb-true, ltb-false, eqb-true, le-ltb, le-leb, and_from}
 use Rattle.charges.specs.Lines.{Line}
 use Rattle.numbers.proofs.Sums.{signed_sum_cons}
 use Rattle.walk.specs.declared.flaw.Flaw.{Flaw}
@@ -10,14 +10,14 @@ use Rattle.walk.specs.declared.flaw.Flaw.TheVariants.{ManyLines, Unfit}
 use Rattle.walk.specs.Flaws.{fits, first_flaw, flaw_of}
 use Rattle.walk.specs.Totals.{amount_of, amount_for, total_of, sum_for}
 use Rattle.law.specs.Settlements.{over, Among, SlotOf, Settlement, Lawful}
-use Rattle.law.specs.Steps.{Finding, clear, raises, holds_or, both, among, loads_from, flaw_found, first, checks, void_checks, told, Answer, accepted, refused}
+use Rattle.law.specs.Steps.{Finding, clear, raises, holds_or, both, among, loads_from, flaw_found, first, checks, void_checks, told, accepted}
 use Rattle.law.proofs.Totals.{over_same, over_add, over_none, over_pick}
 
 pub both_so : (c d : Finding) → both c d ≡ clear → (c ≡ clear) × (d ≡ clear)
 both_so clear d e = (refl, e)
 both_so (raises n p f) d e = let z : ◌≡◌ {A = ℕ} 0 1 = cc in absurd (omega arith)
 
-pub first_so : (cs : List Finding) → first cs ≡ clear → All (λ c. c ≡ clear) cs
+pub first_so : (cs : List Finding) → first cs ≡ clear → AllByRecursion (λ c. c ≡ clear) cs
 first_so [] e = tt
 first_so (c ∷ cs) e = let h = both_so c (first cs) e in (h.0, first_so cs h.1)
 
@@ -38,7 +38,7 @@ so_among k n h = and_from (leb 1 k) (leb k n) (le-leb 1 k h.0) (le-leb k n h.1)
 pub slot_so : (m t i : ℕ) → (among t 3 && among i m) ≡ true → SlotOf m t i
 slot_so m t i e = let h = and_parts (among t 3) (among i m) e in (among_so t 3 h.0, among_so i m h.1)
 
-pub loads_so : (p : ℕ) (loads : List ℕ) → loads_from p loads ≡ clear → All (λ l. l ≤ 20000000) loads
+pub loads_so : (p : ℕ) (loads : List ℕ) → loads_from p loads ≡ clear → AllByRecursion (λ l. l ≤ 20000000) loads
 loads_so p [] e = tt
 loads_so p (l ∷ loads) e =
     let h = both_so (holds_or (leb l 20000000) 32 p) (loads_from (suc p) loads) e in
@@ -79,7 +79,7 @@ lines_add_up n last k (Ok x ∷ lines) e =
 pub record Sound (n m t i : ℕ) (s : Settlement) : Type 0 where
   pub slot : SlotOf m t i
   pub one_each : length s.loads ≡ n
-  pub small : All (λ l. l ≤ 20000000) s.loads
+  pub small : AllByRecursion (λ l. l ≤ 20000000) s.loads
   pub to_parties : first_flaw n 0 1 s.lines ≡ None
   pub within : nat_abs (total_of s.lines) ≤ 5000000000
   pub lawful : Lawful s.rule

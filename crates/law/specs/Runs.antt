@@ -1,5 +1,5 @@
 -- The law over runs: what holds of every book after any list of calls.
-use Rattle.std.specs.Prelude.{◌≡◌, ℕ, suc, ◌+◌, ◌-◌, ◌<◌, ◌≤◌, Bool, true, false, cond, ◌&&◌, List, [], ◌∷◌, map, length, ℤ, pos, ◌+ℤ◌, ◌*ℤ◌, ◌≤ℤ◌, Some, None, Option, ◌==◌}
+use Rattle.std.specs.Prelude.{◌≡◌, ℕ, ◌<◌, Bool, true, false, cond, ◌&&◌, List, [], ◌∷◌, map, ℤ, pos, ◌+ℤ◌, ◌*ℤ◌, ◌≤ℤ◌, Some, None, Option, ◌==◌}
 use Rattle.charges.specs.Lines.{Line}
 use Rattle.law.specs.Settlements.{Among, Settlement, Book, over, over_slots, SlotOf, apart, all_load, load_of, paid_out, source_lines, charge_of}
 use Rattle.law.specs.Steps.{Call, settle, restate, void, balance, look, Carried, Answer, accepted, refused, balance_is, entry_is, answer, BringsLawful, Step, Fresh}

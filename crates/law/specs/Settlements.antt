@@ -1,5 +1,5 @@
 -- What a settlement is and means: loads, lines, a sharing rule, what it pays and charges; and what a book keeps of it.
-use Rattle.std.specs.Prelude.{◌≡◌, ℕ, zero, suc, ◌+◌, ◌-◌, ◌<◌, ◌≤◌, Bool, true, false, cond, List, [], ◌∷◌, length, ℤ, pos, ◌+ℤ◌, ◌-ℤ◌, ◌*ℤ◌, neg_ℤ, Some, None, sum, Option, nat_lt, slice_index, slice_index_or, unsigned_abs}
+use Rattle.std.specs.Prelude.{ℕ, zero, suc, ◌-◌, ◌≤◌, Bool, cond, List, ℤ, pos, ◌+ℤ◌, ◌-ℤ◌, neg_ℤ, Some, None, sum, Option, nat_lt, slice_index, slice_index_or, unsigned_abs}
 use Rattle.sharing.specs.Rules.{Asked, Fair}
 use Rattle.charges.specs.Lines.{Line}
 use Rattle.walk.specs.Totals.{total_of, sum_for}

@@ -1,5 +1,5 @@
 -- The calls, the table of refusals, and what a call answers and leaves.
-use Rattle.std.specs.Prelude.{◌≡◌, ℕ, suc, ◌+◌, ◌-◌, ◌<◌, ◌≤◌, Bool, true, false, cond, not, ◌&&◌, List, [], ◌∷◌, length, ℤ, pos, ◌+ℤ◌, is_some, Some, None, sum, Option, ◌==◌, nat_le, nat_lt, unsigned_abs}
+use Rattle.std.specs.Prelude.{◌≡◌, ℕ, suc, Bool, true, false, cond, not, ◌&&◌, List, [], ◌∷◌, length, ℤ, pos, ◌+ℤ◌, is_some, Some, None, sum, Option, ◌==◌, nat_le, nat_lt, unsigned_abs}
 use Rattle.charges.specs.declared.fault.Fault.{Fault}
 use Rattle.charges.specs.Lines.{Line}
 use Rattle.walk.specs.declared.flaw.Flaw.{Flaw}

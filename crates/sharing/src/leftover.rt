@@ -1,6 +1,6 @@
 // The leftover rule.
-ghost use Rattle.std.specs.Prelude.{◌≡◌, ◌<◌, ◌≤◌, ◌&&◌, ltb, if◌then◌else◌, sum, nat_lt};
-ghost use Rattle.std.specs.List.{AllByRecursion as All};
+ghost use Rattle.std.specs.Prelude.{◌≡◌, ◌<◌, ◌≤◌, ◌&&◌, if◌then◌else◌, sum, nat_lt};
+ghost use Rattle.std.specs.List.{AllByRecursion};
 ghost use Rattle.sharing.specs.Leftover.{leftover as leftover_shares, missing};
 ghost use Rattle.sharing.specs.LeftoverLaws.{leftover_fair};
 
@@ -11,7 +11,7 @@ use numbers::with_sign;
 // The cents that are missing once each exact share is taken down.
 fn missing_cents(magnitude: u64, loads: &[u32], all: u64) -> u64
     requires small { magnitude ≤ 5000000000 }
-    requires each { All (λ x. x ≤ 20000000) loads.now }
+    requires each { AllByRecursion (λ x. x ≤ 20000000) loads.now }
     requires loaded { 0 < sum loads.now }
     requires sums { all ≡ sum loads.now }
     ensures { result ≡ missing magnitude loads.now }
@@ -25,7 +25,7 @@ fn missing_cents(magnitude: u64, loads: &[u32], all: u64) -> u64
 
 // A cent for a share that was not whole, while some are left.
 fn cent_for(rest: u64, left: u64) -> u64
-    ensures { result ≡ (if ltb 0 rest && nat_lt 0 left then 1 else 0) }
+    ensures { result ≡ (if nat_lt 0 rest && nat_lt 0 left then 1 else 0) }
 {
     if rest > 0 && left > 0 { 1 } else { 0 }
 }

@@ -1,6 +1,6 @@
 // The answers' text, gathered in one buffer and handed on in large pieces.
 ghost use Rattle.std.specs.Prelude.{◌≡◌, ◌+◌, ◌^◌, ◌<◌, ◌≤◌, true, [], ◌++◌, length, drop, is_ok, if◌then◌else◌, vec_len, vec_capacity, decimal};
-ghost use Rattle.std.specs.Fmt.{sign_text, signed_decimal as signed_decimal};
+ghost use Rattle.std.specs.Fmt.{sign_text, signed_decimal};
 
 use std::alloc::{AllocError, Global};
 

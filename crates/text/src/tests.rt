@@ -26,7 +26,7 @@ fn natural_numbers(rt: HostRuntime) {
 #[test]
 fn fields_of_a_line(rt: HostRuntime) {
     let (name, mut fields) = Fields::of(b"emr, -3 ,\t,x y");
-    assert!(rt; name == b"emr");
+    assert!(rt; name == b"emr".as_slice());
     assert_eq!(rt; fields.count(), 3);
     assert_eq!(rt; fields.number::<u32>(), None);
     assert_eq!(rt; fields.number(), Some(-3i64));
@@ -41,7 +41,7 @@ fn a_list(rt: HostRuntime) {
     let mut into: Vec<i64> = Vec::new(rt.alloc());
     assert_eq!(rt; fields.list(1, &mut into), Ok(()));
     assert_eq!(rt; fields.list(2, &mut into), Ok(()));
-    assert!(rt; into.as_slice() == [1, 2, -3]);
+    assert!(rt; into.as_slice() == [1, 2, -3].as_slice());
     assert_eq!(rt; fields.list(3, &mut into), Err(Fault::Malformed(3)));
 }
 
@@ -50,13 +50,13 @@ fn lines_of_a_text(rt: HostRuntime) {
     let text = b"party,A\r\n\n  # no record\nclear,emr";
     assert_eq!(rt; lines::whole_lines(text), 24);
     let (line, rest) = lines::next_line(text);
-    assert!(rt; line == b"party,A");
+    assert!(rt; line == b"party,A".as_slice());
     let (line, rest) = lines::next_line(rest);
     assert!(rt; lines::is_passed_over(line));
     let (line, rest) = lines::next_line(rest);
     assert!(rt; lines::is_passed_over(line));
     let (line, rest) = lines::next_line(rest);
-    assert!(rt; line == b"clear,emr");
+    assert!(rt; line == b"clear,emr".as_slice());
     assert!(rt; rest.is_empty());
 }
 
@@ -68,9 +68,9 @@ fn answers_in_a_row(rt: HostRuntime) -> Result<(), Fail> {
     out.number(u64::MAX)?;
     out.put(b" ")?;
     out.signed(i64::MIN)?;
-    assert!(rt; out.text.as_slice() == b"0: 18446744073709551615 -9223372036854775808");
+    assert!(rt; out.text.as_slice() == b"0: 18446744073709551615 -9223372036854775808".as_slice());
     out.clear();
     out.signed(70)?;
-    assert!(rt; out.text.as_slice() == b"70");
+    assert!(rt; out.text.as_slice() == b"70".as_slice());
     Ok(())
 }

@@ -1,8 +1,6 @@
-use Rattle.std.proofs.Common.{◌≡◌, ◌<◌, ◌≤◌, true, false, ltb, List, length, get_or, replicate, ℤ, pos, neg_ℤ, nat_abs, sum, sym, refl, ap, ◌∙◌, arith, rules}
+use Rattle.std.proofs.Common.{◌≡◌, ◌<◌, true, false, ltb, length, get_or, pos, neg_ℤ, sum, ap, ◌∙◌, arith, rules}
 use Rattle.std.proofs.lemmas.List.{get_or_append_left, get_or-replicate}
-use Rattle.std.proofs.lemmas.Int.{ints}
 use Rattle.std.proofs.lemmas.Bool.{le-ltb, lt-ltb}
-use Rattle.sharing.specs.Rules.{Asked}
 use Rattle.assess.proofs.assessing.charge.Goals as goal
 
 pub returns-then-load-eq0 : goal.returns-then-load-eq0

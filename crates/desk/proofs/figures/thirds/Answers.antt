@@ -1,7 +1,6 @@
-use Rattle.std.proofs.Common.{◌≡◌, ℤ, Ok, ◌∙◌, SFits, rules}
+use Rattle.std.proofs.Common.{Ok, ◌∙◌, SFits, rules}
 use mir.Syntax.{w128}
 use Rattle.std.proofs.lemmas.Int.{to_z-of_z}
-use Rattle.book.specs.Books.{model}
 use Rattle.desk.proofs.Bills.{never_refused, three_balances}
 use Rattle.desk.proofs.figures.thirds.Goals as goal
 

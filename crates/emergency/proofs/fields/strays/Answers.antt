@@ -1,4 +1,4 @@
-use Rattle.std.proofs.Common.{◌≡◌, false, ◌||◌, pos, negsuc, ap, ◌∙◌}
+use Rattle.std.proofs.Common.{false, ◌||◌, pos, negsuc, ap, ◌∙◌}
 use Rattle.std.proofs.lemmas.List.Sums.{fold_more}
 use Rattle.std.proofs.lemmas.List.{take_all}
 use Rattle.emergency.specs.Fields.{strays, outside}

@@ -1,4 +1,4 @@
-use Rattle.std.proofs.Common.{◌≡◌, List, ℤ, pos, negsuc, ◌≤ℤ◌, sym, ap, ◌∙◌, arith, w32, w64, SFits, to_z, of_z}
+use Rattle.std.proofs.Common.{◌≡◌, List, ℤ, pos, negsuc, ◌≤ℤ◌, sym, ◌∙◌, arith, w32, w64, SFits, to_z, of_z}
 use Rattle.emergency.specs.declared.slices.Slice.{Slice}
 use Rattle.emergency.proofs.Ranges.{charged_within}
 use borrow.Author.Differences.{ints}

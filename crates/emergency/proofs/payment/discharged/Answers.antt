@@ -1,4 +1,4 @@
-use Rattle.std.proofs.Common.{◌≡◌, ℕ, ◌≤◌, List, ℤ, pos, ◌≤ℤ◌, sym, ap, ◌∙◌, arith, w32, w64, Fits, SFits, to_z, of_z}
+use Rattle.std.proofs.Common.{◌≡◌, ℕ, ◌≤◌, List, ℤ, pos, ◌≤ℤ◌, sym, ◌∙◌, arith, w32, w64, Fits, SFits, to_z, of_z}
 use Rattle.emergency.specs.declared.slices.Slice.{Slice}
 use Rattle.emergency.proofs.Ranges.{discharged_within}
 use borrow.Author.Differences.{ints}

@@ -1,7 +1,6 @@
-use Rattle.std.proofs.Common.{◌≡◌, ◌<◌, ◌≤◌, true, false, pos, nat_abs, sym, ap, ◌∙◌, subst, arith, w64, to_z, of_z}
+use Rattle.std.proofs.Common.{◌≡◌, ◌<◌, ◌≤◌, pos, nat_abs, sym, ◌∙◌, subst, arith, w64, to_z, of_z}
 use Rattle.std.proofs.lemmas.Int.{to_z-of_z}
 use Rattle.std.proofs.lemmas.Bool.{cond-true, cond-false}
-use Rattle.rounding.specs.Nearest.{nearest_to}
 use Rattle.emergency.specs.Energy.{mean_price}
 use Rattle.emergency.proofs.Weights.{weights_some, quotient_is}
 use Rattle.emergency.proofs.Ranges.{mean_small}

@@ -1,4 +1,4 @@
-use Rattle.std.proofs.Common.{◌≡◌, false, ◌||◌, ap, ◌∙◌, arith}
+use Rattle.std.proofs.Common.{false, ◌||◌, ap, ◌∙◌}
 use Rattle.std.proofs.lemmas.List.Sums.{fold_more}
 use Rattle.std.proofs.lemmas.List.{take_all}
 use Rattle.emergency.specs.Energy.{some, lies}

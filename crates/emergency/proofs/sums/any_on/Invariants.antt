@@ -1,5 +1,5 @@
 use Rattle.std.proofs.Common.{◌≡◌, take}
-use Rattle.emergency.specs.Energy.{some, lies}
+use Rattle.emergency.specs.Energy.{some}
 use Rattle.emergency.proofs.sums.any_on.Given as goal
 
 abbrev pub invariant-loop-x : goal.invariant-loop-x

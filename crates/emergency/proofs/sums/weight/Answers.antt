@@ -1,4 +1,4 @@
-use Rattle.std.proofs.Common.{◌≡◌, ◌*◌, ◌≤◌, ap, mul-le-mul, arith}
+use Rattle.std.proofs.Common.{◌*◌, ap, mul-le-mul, arith}
 use Rattle.emergency.proofs.sums.weight.Goals as goal
 
 pub overflow_mul-result : goal.overflow_mul-result

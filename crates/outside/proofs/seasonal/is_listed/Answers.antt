@@ -1,4 +1,4 @@
-use Rattle.std.proofs.Common.{◌≡◌, false, ◌||◌, eqb, get_or, sym, ap, ◌∙◌}
+use Rattle.std.proofs.Common.{false, ◌||◌, eqb, get_or, sym, ap, ◌∙◌}
 use Rattle.std.proofs.lemmas.List.{take_all}
 use Rattle.std.proofs.lemmas.List.Sums.{fold_more}
 use Rattle.outside.specs.Seasons.{listed}

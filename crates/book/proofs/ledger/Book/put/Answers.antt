@@ -1,13 +1,13 @@
-use Rattle.std.proofs.Common.{◌≡◌, ℕ, ◌+◌, ◌-◌, ◌*◌, ◌<◌, ◌≤◌, cond, ltb, List, length, get_or, ℤ, pos, neg_ℤ, nat_abs, Ok, Err, sum, sym, refl, ap, ◌∙◌, subst, arith, w64, SFits, to_z, of_z, Bor, MutBor, rules}
+use Rattle.std.proofs.Common.{◌≡◌, ℕ, ◌-◌, ◌*◌, ◌<◌, ◌≤◌, cond, ltb, List, length, get_or, ℤ, pos, neg_ℤ, nat_abs, Err, sum, sym, refl, ap, ◌∙◌, subst, arith, w64, SFits, to_z, of_z, MutBor}
 use Rattle.std.proofs.lemmas.Result.{err_from_is_err_and}
 use Rattle.std.proofs.lemmas.Int.{ints, to_z-of_z}
 use Rattle.walk.specs.Totals.{total_of}
-use Rattle.law.specs.Settlements.{Settlement, Among, source_lines, charge_of}
+use Rattle.law.specs.Settlements.{Settlement, Among, charge_of}
 use Rattle.law.specs.Steps.{told}
 use Rattle.law.proofs.Table.{Sound, checks_so}
 use Rattle.book.specs.declared.rows.Slot.{Slot}
 use Rattle.assess.specs.Refusals.{number_of, place_of, carries, said}
-use Rattle.book.specs.Model.{on, named, NowAt, entered}
+use Rattle.book.specs.Model.{on, named}
 use Rattle.book.specs.Books.{model, Moves}
 use Rattle.book.proofs.Places.{slot_under}
 use Rattle.book.proofs.Settles.{step_put, step_refused}
@@ -75,7 +75,7 @@ bounds-self-at g c =
     let s : Settlement = record { loads = c.args.loads.now; lines = g.S.LineSource.lines c.args.source.now; rule = g.R.SharingRule.meaning c.args.rule.now } in
     let law = g.R.SharingRule.fair c.args.rule.now in
     let ok : Sound b.parties b.intervals c.args.charge_type c.args.interval s = checks_so b.parties b.intervals _ c.args.wanted c.args.charge_type c.args.interval s law (sym c.in_ok-total.ensures.checks) in
-    let same = ap (λ (r : Bor (List Slot)). length r.now) c.write_row.ensures.rest.slots_same in
+    let same = ap (λ (r : MutBor (List Slot)). length r.now) c.write_row.ensures.rest.slots_same in
     let room = b.slotted in
     omega (arith, slot_under b.intervals c.args.charge_type c.args.interval ok.slot, c.slot_place-at.ensures, same, room)
 

@@ -1,4 +1,4 @@
-use Rattle.std.proofs.Common.{◌≡◌, ◌*◌, ◌<◌, true, List, get_or, sym, refl, ap, subst, arith, MutBor}
+use Rattle.std.proofs.Common.{◌≡◌, ◌*◌, ◌<◌, true, List, get_or, sym, ap, subst, arith, MutBor}
 use Rattle.law.proofs.Table.{holds_so, slot_so}
 use Rattle.book.specs.declared.rows.Slot.{Slot}
 use Rattle.book.specs.Model.{off, slot_at}

@@ -1,4 +1,4 @@
-use Rattle.std.proofs.Common.{◌≡◌, ◌-◌, length, take, refl, arith, rules}
+use Rattle.std.proofs.Common.{◌≡◌, length, take, refl, arith, rules}
 use native.Mathlib.Nat.{sub-zero}
 use Rattle.std.proofs.lemmas.List.{length-take-le}
 use Rattle.curves.proofs.curve.Curve.points.Goals as goal

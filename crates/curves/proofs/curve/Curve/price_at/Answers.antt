@@ -1,5 +1,4 @@
-use Rattle.std.proofs.Common.{◌≡◌, arith, w32, SFits, rules}
-use borrow.Author.Differences.{ints}
+use Rattle.std.proofs.Common.{arith}
 use Rattle.std.proofs.lemmas.Int.{to_z-of_z}
 use Rattle.curves.specs.Reading.{price_at}
 use Rattle.curves.proofs.curve.Curve.price_at.Goals as goal

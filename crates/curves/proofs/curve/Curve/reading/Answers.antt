@@ -1,9 +1,8 @@
-use Rattle.std.proofs.Common.{◌≡◌, ℕ, ◌+◌, ◌-◌, ◌<◌, ◌≤◌, List, length, take, ℤ, pos, negsuc, nat_abs, ◌≤ℤ◌, ◌<ℤ◌, sym, refl, ap, ◌∙◌, arith, w32, SFits, to_z, of_z, rules}
+use Rattle.std.proofs.Common.{◌≡◌, ℕ, ◌+◌, ◌-◌, length, ◌≤ℤ◌, ◌<ℤ◌, ap, ◌∙◌, arith, w32, to_z, of_z, rules}
 use borrow.Author.Differences.{ints}
 use Rattle.std.proofs.lemmas.Int.{to_z-of_z}
-use Rattle.curves.specs.declared.points.Point.{Point}
 use Rattle.curves.specs.Shape.{at}
-use Rattle.curves.specs.Reading.{line, reads, Reads}
+use Rattle.curves.specs.Reading.{line}
 use Rattle.curves.proofs.Held as held
 use Rattle.curves.proofs.curve.Curve.reading.Goals as goal
 

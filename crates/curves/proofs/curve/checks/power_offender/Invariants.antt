@@ -1,4 +1,3 @@
-use Rattle.std.proofs.Common.{ℕ, ◌<◌}
 use Rattle.curves.specs.Submission.{GoodPower}
 use Rattle.numbers.specs.Checks.{Each}
 use Rattle.curves.proofs.curve.checks.power_offender.Given as goal

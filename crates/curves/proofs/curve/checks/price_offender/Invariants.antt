@@ -1,4 +1,3 @@
-use Rattle.std.proofs.Common.{ℕ, ◌<◌}
 use Rattle.curves.specs.Submission.{GoodPrice}
 use Rattle.numbers.specs.Checks.{Each}
 use Rattle.curves.proofs.curve.checks.price_offender.Given as goal

@@ -1,15 +1,15 @@
-use Rattle.std.proofs.Common.{◌≡◌, ℕ, ◌+◌, ◌-◌, ◌<◌, ◌≤◌, List, ◌++◌, length, take, ℤ, pos, negsuc, ◌-ℤ◌, ◌≤ℤ◌, sym, refl, ap, ◌∙◌, subst, arith, w32, SFits, to_z, of_z, rules}
+use Rattle.std.proofs.Common.{◌≡◌, ℕ, ◌-◌, ◌≤◌, List, ◌++◌, length, take, ℤ, pos, negsuc, ◌-ℤ◌, ◌≤ℤ◌, sym, refl, ap, ◌∙◌, subst, arith, w32, SFits, to_z, of_z, rules}
 use native.Mathlib.Nat.{sub-zero}
 use borrow.Author.Differences.{ints}
 use Rattle.std.specs.Int.{int_min}
 use Rattle.std.proofs.lemmas.Int.{to_z-of_z, clamps}
 use Rattle.std.proofs.lemmas.List.{length-take-le}
 use Rattle.curves.specs.declared.points.Point.{Point}
-use Rattle.curves.specs.Shape.{at, point, InLimits, Shaped}
+use Rattle.curves.specs.Shape.{at, InLimits, Shaped}
 use Rattle.curves.specs.Submission.{listed}
 use Rattle.curves.specs.Completion.{low_end, step_up, high_end, completed}
 use Rattle.curves.proofs.Soundness.{sound}
-use Rattle.curves.proofs.Completion.{completed_shaped, first_in, last_in, first_same, last_same, listed_length, four, same_if}
+use Rattle.curves.proofs.Completion.{completed_shaped, first_in, last_in, first_same, last_same, four, same_if}
 use Rattle.curves.proofs.curve.completion.fill.Goals as goal
 
 pub overflow_sub-step : goal.overflow_sub-step

@@ -1,11 +1,10 @@
-use Rattle.std.proofs.Common.{◌≡◌, ℕ, ◌≤◌, ℤ, pos, negsuc, ◌+ℤ◌, ◌-ℤ◌, nat_abs, ◌≤ℤ◌, sym, refl, ap, ◌∙◌, arith, w32, w64, SFits, to_z, of_z}
+use Rattle.std.proofs.Common.{◌≡◌, ℕ, ◌≤◌, ℤ, ◌+ℤ◌, ◌-ℤ◌, nat_abs, ◌≤ℤ◌, refl, ap, ◌∙◌, arith, w32, w64, to_z, of_z}
 use borrow.Author.Differences.{ints}
-use Rattle.std.proofs.lemmas.Int.{to_z-of_z}
 use Rattle.rounding.specs.Nearest.{nearest_to}
 use Rattle.curves.specs.Reading.{line}
 use Rattle.curves.proofs.Lines.{p_small, q_small, line_is, line_low, line_high}
 use Rattle.curves.proofs.curve.reading.on_line.Goals as goal
-use Rattle.curves.proofs.curve.reading.on_line.Goals.{After-weighed-2, at·returns}
+use Rattle.curves.proofs.curve.reading.on_line.Goals.{After-weighed-2, at-returns}
 
 -- what the steps computed, for the lemmas on lines
 module _ (c : goal.After-weighed-2) where
@@ -27,7 +26,7 @@ overflow_add-sum c = let h = first_small c in let k = second_small c in omega (a
 
 result : (c : goal.After-nearest) → c.nearest.result ≡ line c.args.a c.args.b c.args.power
 result c =
-    let w = (at·returns c).After-weighed-2 in
+    let w = (at-returns c).After-weighed-2 in
     c.nearest.ensures.value ∙ ap (λ z. nearest_to z c.abs_diff-3.result) (clear c.weighed.result c.weighed-2.result (first_small w) (second_small w)) ∙ line_so w c.abs_diff-3.result c.abs_diff-3.ensures
 
 bounds : (c : goal.After-nearest) → (c.args.a.price ≤ℤ c.nearest.result) × (c.nearest.result ≤ℤ c.args.b.price)

@@ -1,4 +1,4 @@
-use Rattle.std.proofs.Common.{◌≡◌, Bool, true, false, sym, arith}
+use Rattle.std.proofs.Common.{sym, arith}
 use Rattle.std.proofs.lemmas.List.{length-take}
 use Rattle.numbers.proofs.Checks.{one_answer}
 use Rattle.curves.specs.Submission.{checks, number_of, place_of}
@@ -8,7 +8,12 @@ use Rattle.curves.proofs.points.SubmittedCurve.complete.Goals as goal
 pub invariant_of-result : goal.invariant_of-result
 invariant_of-result c =
     let s = c.fill-count.ensures.shape in
-    (omega (arith, s.some, length-take c.fill-count.result c.fill-count.new.points), (c.fill-count.ensures.within, (s.rising, (s.inside, tt))))
+    record {
+      some = omega (arith, s.some, length-take c.fill-count.result c.fill-count.new.points);
+      few = c.fill-count.ensures.within;
+      rising = s.rising;
+      inside = s.inside;
+    }
 
 pub returns-in-Some : goal.returns-in-Some
 returns-in-Some c =
