@@ -9,6 +9,7 @@ import os
 import re
 
 CAMEL = """
+basisBy basisOf lineOf recordsOf
 adjustedAmount adjustedEntry adjustedLines afterLine afterMinus allLoad allSigns amountFor amountOf badField balanceAt
 balanceIn balanceIs balanceTold basisIn behindNumber byBytes carriedBy causeOf chargeOf chargedOf consTo countCheck
 curveKind deniedEntry deniedLines digitsIn dischargedOf dueFor energyOf entryChecks entryIn entryIs faultFrom faultOf
@@ -78,6 +79,8 @@ OTHER = [
     (None, "inField", "in_field"),
     (None, "inItem", "in_item"),
     (None, "first-at", "first_offender"),
+    ("directory", "same-f", "same_f"),
+    ("directory", "same-g", "same_g"),
 ]
 
 TOKEN = re.compile(r"(?<![\w'-])(\.?)([A-Za-z][\w'-]*)")

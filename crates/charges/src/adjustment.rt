@@ -125,7 +125,7 @@ impl<S: LineSource> LineSource for Adjustment<S> {
 }
 
 impl<S: BasisSource> BasisSource for Adjustment<S> {
-    ghost basisOf = { λ s n. resting (line_at (adjusted_lines (held_by s.table) (S.LineSource.lines s.below)) n) (S.BasisSource.basisOf s.below n) };
+    ghost basis_of = { λ s n. resting (line_at (adjusted_lines (held_by s.table) (S.LineSource.lines s.below)) n) (S.BasisSource.basis_of s.below n) };
 
     fn basis(&self, n: usize) -> u32 {
         match self.adjusted(n) {

@@ -34,7 +34,7 @@ impl EnergyRefusal {
 
 // The sum of the bases.
 pub fn energy<S: BasisSource>(source: &S) -> Result<u64, EnergyRefusal>
-    ensures answer { MatchResult result (λ kwh. Passed (checks (S.LineSource.lines source.now)) × (kwh ≡ energy_of (S.LineSource.lines source.now) (S.BasisSource.basisOf source.now))) (λ refusal. Refused (checks (S.LineSource.lines source.now)) (number_of refusal) (place_of refusal)) }
+    ensures answer { MatchResult result (λ kwh. Passed (checks (S.LineSource.lines source.now)) × (kwh ≡ energy_of (S.LineSource.lines source.now) (S.BasisSource.basis_of source.now))) (λ refusal. Refused (checks (S.LineSource.lines source.now)) (number_of refusal) (place_of refusal)) }
     ensures once { (number place : ℕ) → OneAnswer (checks (S.LineSource.lines source.now)) number place }
 {
     let count = source.count();

@@ -21,10 +21,10 @@ pub trait LineSource {
 
 // A source that also tells the kWh that each line rests on.
 pub trait BasisSource: LineSource {
-    ghost basisOf: { Self → ℕ → ℕ };
+    ghost basis_of: { Self → ℕ → ℕ };
 
     // The basis of line n.
     fn basis(&self, n: usize) -> u32
-        ensures value { result ≡ basisOf self.now n }
+        ensures value { result ≡ basis_of self.now n }
         ensures based { Based (line_at (Self.LineSource.lines self.now) n) result };
 }

@@ -17,7 +17,7 @@ pub struct ListedRow {
 pub struct Listed;
 
 impl Reader<ListedRow> for Listed {
-    ghost lineOf = { λ s n row. listed_line n row };
+    ghost line_of = { λ s n row. listed_line n row };
 
     ghost ranged = { λ s n row. listed_ranged n row };
 
@@ -33,7 +33,7 @@ impl Reader<ListedRow> for Listed {
 }
 
 impl BasisReader<ListedRow> for Listed {
-    ghost basisBy = { λ s n row. 0 };
+    ghost basis_by = { λ s n row. 0 };
 
     fn rest(&self, n: usize, row: &ListedRow) -> u32 {
         0

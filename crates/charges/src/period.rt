@@ -56,7 +56,7 @@ impl<S: LineSource> LineSource for Period<S> {
 }
 
 impl<S: BasisSource> BasisSource for Period<S> {
-    ghost basisOf = { λ s n. S.BasisSource.basisOf s.below n };
+    ghost basis_of = { λ s n. S.BasisSource.basis_of s.below n };
 
     fn basis(&self, n: usize) -> u32 {
         self.below.basis(n)

@@ -5,21 +5,21 @@ ghost use Rattle.charges.specs.Lines.{Line, Ranged, Based};
 use crate::fault::Fault;
 
 pub trait Reader<R> {
-    ghost lineOf: { Self → ℕ → R → Line };
+    ghost line_of: { Self → ℕ → R → Line };
 
-    ghost ranged: { (s : Self) (n : ℕ) (row : R) → Ranged (lineOf s n row) };
+    ghost ranged: { (s : Self) (n : ℕ) (row : R) → Ranged (line_of s n row) };
 
     // The row as line n.
     fn read(&self, n: usize, row: &R) -> Result<(u16, u8, i64), Fault>
-        ensures { result ≡ lineOf self.now n row.now };
+        ensures { result ≡ line_of self.now n row.now };
 }
 
 // A reader that also tells the kWh that the row rests on.
 pub trait BasisReader<R>: Reader<R> {
-    ghost basisBy: { Self → ℕ → R → ℕ };
+    ghost basis_by: { Self → ℕ → R → ℕ };
 
     // The row's basis as line n.
     fn rest(&self, n: usize, row: &R) -> u32
-        ensures value { result ≡ basisBy self.now n row.now }
-        ensures based { Based (Self.Reader.lineOf self.now n row.now) result };
+        ensures value { result ≡ basis_by self.now n row.now }
+        ensures based { Based (Self.Reader.line_of self.now n row.now) result };
 }

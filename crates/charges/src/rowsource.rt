@@ -13,9 +13,9 @@ pub struct RowSource<'a, R, T> {
 }
 
 impl<'a, R, T: Reader<R>> LineSource for RowSource<'a, R, T> {
-    ghost lines = { λ s. numbered (T.Reader.lineOf s.reader) 1 s.rows.now };
+    ghost lines = { λ s. numbered (T.Reader.line_of s.reader) 1 s.rows.now };
 
-    ghost sound = { λ s. rows_sound (T.Reader.lineOf s.reader) (T.Reader.ranged s.reader) s.rows.now };
+    ghost sound = { λ s. rows_sound (T.Reader.line_of s.reader) (T.Reader.ranged s.reader) s.rows.now };
 
     fn count(&self) -> usize {
         self.rows.len()
@@ -31,7 +31,7 @@ impl<'a, R, T: Reader<R>> LineSource for RowSource<'a, R, T> {
 }
 
 impl<'a, R, T: BasisReader<R>> BasisSource for RowSource<'a, R, T> {
-    ghost basisOf = { λ s n. basis_in (T.BasisReader.basisBy s.reader) s.rows.now n };
+    ghost basis_of = { λ s n. basis_in (T.BasisReader.basis_by s.reader) s.rows.now n };
 
     fn basis(&self, n: usize) -> u32 {
         if n < 1 || n > self.rows.len() {

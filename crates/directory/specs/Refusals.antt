@@ -36,7 +36,7 @@ module _ {R K : Type 0} (kind : Kind R K) (xs : List R) where
 
   -- what making a directory answers: one of these records, which passed every check, or the refusal of the first check that fails
   abbrev pub Opened : {D : Type 0} → (D → List R) → Result D DirectoryRefusal → Type 0
-  Opened recordsOf answer = MatchResult answer (λ d. (recordsOf d ≡ xs) × Passed checks) (λ refusal. Refused checks (number_of refusal) (place_of refusal))
+  Opened records_of answer = MatchResult answer (λ d. (records_of d ≡ xs) × Passed checks) (λ refusal. Refused checks (number_of refusal) (place_of refusal))
 
 -- what one check answers: it passes, or its refusal
 abbrev pub Checked : {D : Type 0} → Check → Result D DirectoryRefusal → Type 0

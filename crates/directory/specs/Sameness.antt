@@ -30,6 +30,6 @@ text_same (x ∷ xs) (y ∷ ys) e =
 pub pair_same : {A B : Type 0} (f : A → A → Ordering) (g : B → B → Ordering)
     → ((x y : A) → f x y ≡ Equal → x ≡ y) → ((x y : B) → g x y ≡ Equal → x ≡ y)
     → (x y : A × B) → ordering_then (f x.0 y.0) (g x.1 y.1) ≡ Equal → x ≡ y
-pair_same f g same-f same-g x y e =
+pair_same f g same_f same_g x y e =
     let both = both_equal (f x.0 y.0) (g x.1 y.1) e in
-    λ i. (same-f x.0 y.0 both.0 i, same-g x.1 y.1 both.1 i)
+    λ i. (same_f x.0 y.0 both.0 i, same_g x.1 y.1 both.1 i)

@@ -1,9 +1,8 @@
 // The numbers that a text writes.
-ghost use Rattle.std.specs.Prelude.{◌≡◌, ℕ, Bool, true, false, is_some, Some, None, Option, MatchOption};
+ghost use Rattle.std.specs.Prelude.{◌≡◌, ℕ, Bool, true, false, is_some, Some, None, Option, MatchOption, refl};
 ghost use Rattle.text.specs.Text.{front, past};
 ghost use Rattle.text.specs.Numbers.{digit, magnitude, signed64, natural32, number_in};
 ghost use Rattle.text.specs.Begins.{begins, after_minus, front_number, behind_number};
-ghost use Rattle.std.proofs.Common.{rules};
 
 use crate::blanks;
 
@@ -22,7 +21,7 @@ pub trait Number: Drop {
 impl Number for i64 {
     ghost kind = { signed64 };
 
-    ghost zero = { Prim.search rules };
+    ghost zero = { refl };
 
     fn from_parts(negative: bool, magnitude: u64) -> Option<i64> {
         if magnitude < 9223372036854775808 {
@@ -39,7 +38,7 @@ impl Number for i64 {
 impl Number for u32 {
     ghost kind = { natural32 };
 
-    ghost zero = { Prim.search rules };
+    ghost zero = { refl };
 
     fn from_parts(negative: bool, magnitude: u64) -> Option<u32> {
         if negative || magnitude > 4294967295 {

@@ -5,6 +5,7 @@
 use day::report::{Tally, report};
 use day::sample::SAMPLE;
 use std::io::{Read, Write};
+use std::process::ExitCode;
 use std::{env, fs, io};
 use text::answers::Answers;
 
@@ -34,17 +35,17 @@ fn work(rt: &HostRuntime) -> io::Result<Tally> {
 }
 
 // The status is 1 where the text could not be read or a record was malformed.
-fn main(rt: HostRuntime) -> io::Result<()> {
+fn main(rt: HostRuntime) -> io::Result<ExitCode> {
     match work(&rt) {
         Ok(tally) => {
             if tally.malformed > 0 {
-                return Err(io::Error::other("a record was malformed"));
+                return Ok(ExitCode::FAILURE);
             }
-            Ok(())
+            Ok(ExitCode::SUCCESS)
         }
         Err(e) => {
             eprintln!(rt; "uplift: {e}")?;
-            Err(e)
+            Ok(ExitCode::FAILURE)
         }
     }
 }

@@ -22,7 +22,7 @@ overflow_add-kwh g c = let h = low g c in omega (arith, c.loop-i.invariant.1)
 pub loop-i-preserved : goal.loop-i-preserved
 loop-i-preserved g c =
     let h = low g c in
-    let more = sum_by-map-range_with_len_more (λ x. x) (g.S.BasisSource.basisOf c.args.source.now) 1 c.loop-i.i (c.loop-i.i + 1) (omega arith) in
+    let more = sum_by-map-range_with_len_more (λ x. x) (g.S.BasisSource.basis_of c.args.source.now) 1 c.loop-i.i (c.loop-i.i + 1) (omega arith) in
     (omega (arith, c.loop-i.invariant.0, more, c.basis.ensures.value), omega (arith, c.loop-i.invariant.1))
 
 pub returns : goal.returns
@@ -31,6 +31,6 @@ returns g c =
     let few : length ls ≤ 256 = omega (arith, c.count-count.ensures) in
     let all : c.loop-i.i ≡ length ls = omega (arith, c.count-count.ensures) in
     record {
-      answer = ((few, tt), c.loop-i.invariant.0 ∙ ap (λ n. sum (map (g.S.BasisSource.basisOf c.args.source.now) (range_with_len 1 n))) all);
+      answer = ((few, tt), c.loop-i.invariant.0 ∙ ap (λ n. sum (map (g.S.BasisSource.basis_of c.args.source.now) (range_with_len 1 n))) all);
       once = one_answer (checks ls);
     }
