@@ -16,8 +16,8 @@ due-owed-requires c = record {
 }
 
 -- the part that is owed, clear of its bits
-cut : (z x : ℤ) → SFits w64 z → x ≡ int_min (to_z w64 (of_z w64 z)) (pos 0) → to_z w64 (of_z w64 x) ≡ int_min (pos 0) z
-cut z x f h = omega (arith, ints, clamps)
+clear : (z : ℤ) → SFits w64 z → to_z w64 (of_z w64 (int_min (to_z w64 (of_z w64 z)) (pos 0))) ≡ int_min (pos 0) z
+clear z f = omega (arith, ints, clamps)
 
 wide : (z : ℤ) → SFits w32 z → to_z w64 (of_z w64 (to_z w32 (of_z w32 z))) ≡ z
 wide z f = omega (arith, ints)
@@ -37,15 +37,15 @@ returns c =
     let cw = to_z-of_z w64 c.mean_price-w.result (record { sfits = c.mean_price-w.type_inv }) in
     let cv = to_z-of_z w64 c.mean_price-v.result (record { sfits = c.mean_price-v.type_inv }) in
     let cs = wide c.args.spp c.ranges.spp in
-    let cc = to_z-of_z w32 c.args.charging c.ranges.charging in
+    let ck = to_z-of_z w32 c.args.charging c.ranges.charging in
     let w = cw ∙ c.mean_price-w.ensures.value in
     let e = ce ∙ c.discharged-e.ensures.value in
     let v = cv ∙ c.mean_price-v.ensures.value in
-    let d = cd ∙ c.charged-d.ensures.value ∙ ap (λ z. charged z c.args.slices.now) cc in
+    let d = cd ∙ c.charged-d.ensures.value ∙ ap (λ z. charged z c.args.slices.now) ck in
     let xs = c.args.slices.now in
     let is_due : c.due-owed.result ≡ due c.args.spp (mean_price Above xs) (discharged c.args.generation xs) (mean_price Below xs) (charged c.args.charging xs) =
     c.due-owed.ensures ∙ rw (cs, w, e, v, d) in
-    let a = to_z-of_z w64 c.nearest.result (record { sfits = c.nearest.type_inv }) ∙ c.nearest.ensures.value
-    ∙ ap (λ z. nearest_to z 1000) (cut c.due-owed.result c.min.result (record { sfits = c.due-owed.type_inv }) c.min.ensures.value ∙ ap (int_min (pos 0)) is_due) in
+    let owed : c.nearest.result ≡ nearest_to (int_min (pos 0) c.due-owed.result) 1000 = cc (clear c.due-owed.result (record { sfits = c.due-owed.type_inv })) in
+    let a = to_z-of_z w64 c.nearest.result (record { sfits = c.nearest.type_inv }) ∙ owed ∙ ap (λ z. nearest_to (int_min (pos 0) z) 1000) is_due in
     let b = c.moved.ensures ∙ rw (e, d) in
     same _ _ _ _ _ _ _ _ _ _ _ _ w e v d a b
