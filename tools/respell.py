@@ -1,9 +1,10 @@
 #!/usr/bin/env python3
 """Respells the repository's own definitions and lemmas in snake case: run once, at the top, after the kit's port.py.
 
-A name in CAMEL is respelled wherever it stands. A name in DASHED is respelled but after a dot, where names that the
-prover makes stand. OTHER has the names that would fall together with another. A prime becomes an apostrophe.
-Only .antt files, and of .rt files only the text outside strings and comments, are changed.
+A name in CAMEL or DASHED is respelled wherever it stands alone, as a field after a dot too; a longer name of which it is a
+part stays. OTHER has the names of one crate, and those that would fall together with another. A prime becomes an apostrophe.
+Only .antt files, and of .rt files only the text outside strings and comments, are changed. A second run would respell the new
+name in_field of the crate text again.
 """
 import os
 import re
@@ -81,9 +82,10 @@ OTHER = [
     (None, "first-at", "first_offender"),
     ("directory", "same-f", "same_f"),
     ("directory", "same-g", "same_g"),
+    ("outside", "isListed", "is_listed"),
 ]
 
-TOKEN = re.compile(r"(?<![\w'-])(\.?)([A-Za-z][\w'-]*)")
+TOKEN = re.compile(r"(?<![\w'-])[A-Za-z][\w'-]*")
 STRING = re.compile(r'b?"(?:\\.|[^"\\])*"|//[^\n]*')
 
 
@@ -98,13 +100,7 @@ def table(crate):
 
 
 def respell(text, names):
-    def turn(m):
-        dot, name = m.groups()
-        if dot and "-" in name:
-            return m.group(0)
-        return dot + names.get(name, name)
-
-    return TOKEN.sub(turn, text.replace("\u2032", "'"))
+    return TOKEN.sub(lambda m: names.get(m[0], m[0]), text.replace("\u2032", "'"))
 
 
 def outside_strings(text, names):

@@ -12,9 +12,9 @@ listed months month = fold (λ found m. found || m == month) false months
 
 -- the shares
 abbrev pub seasonal : Bool → ℤ → List ℕ → List ℤ
-seasonal isListed total loads = cond isListed (leftover total loads) (running total loads)
+seasonal is_listed total loads = cond is_listed (leftover total loads) (running total loads)
 
 -- it keeps the laws, since both rules do
-pub seasonal_fair : (isListed : Bool) (total : ℤ) (loads : List ℕ) → Asked total loads → Fair total loads (seasonal isListed total loads)
+pub seasonal_fair : (is_listed : Bool) (total : ℤ) (loads : List ℕ) → Asked total loads → Fair total loads (seasonal is_listed total loads)
 seasonal_fair true total loads asked = leftover_fair total loads asked
 seasonal_fair false total loads asked = running_fair total loads asked
