@@ -1,5 +1,5 @@
 -- Tables of checks: which check refuses a call, with its number and its place.
-use Rattle.std.specs.Prelude.{◌≡◌, ℕ, ◌-◌, ◌<◌, ◌≤◌, ◌⊎◌, List, [], ◌∷◌}
+use Rattle.std.specs.Prelude.{◌≡◌, ℕ, ◌-◌, ◌<◌, ◌≤◌, ◌⊎◌, List, [], ◌∷◌, Result, MatchResult}
 
 -- each of the first n places is good
 abbrev pub Each : (ℕ → Type 0) → ℕ → Type 0
@@ -38,3 +38,12 @@ Refused (c ∷ cs) refused place = Refuses c refused place ⊎ (Passes c × Refu
 pub record OneAnswer (cs : List Check) (refused place : ℕ) : Type 0 where
   pub blocks : Refused cs refused place → Passed cs → ⊥
   pub alone : (number at : ℕ) → Refused cs refused place → Refused cs number at → (refused ≡ number) × (place ≡ at)
+
+-- what a call under a table of checks answers: its value, which means what it should, where every check passes; else the number and
+-- place of the first that does not
+abbrev pub Answered : {T E : Type 0} → List Check → (E → ℕ) → (E → ℕ) → (T → Type 0) → Result T E → Type 0
+Answered cs number_of place_of Means answer = MatchResult answer (λ value. Passed cs × Means value) (λ refusal. Refused cs (number_of refusal) (place_of refusal))
+
+-- a table never gives two answers
+abbrev pub Unambiguous : List Check → Type 0
+Unambiguous cs = (refused place : ℕ) → OneAnswer cs refused place

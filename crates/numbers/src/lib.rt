@@ -1,8 +1,11 @@
-// Whole numbers as the settlement uses them: products that fit and magnitudes with a sign. Nothing here rounds.
+// Whole numbers as the settlement uses them: products that fit, magnitudes with a sign, and what is told by a number. Nothing here
+// rounds.
 #![tactic(auto)]
 
 ghost use Rattle.std.specs.Prelude.{◌≡◌, ◌≤◌, pos, ◌*ℤ◌, unsigned_abs};
 ghost use Rattle.numbers.specs.Signs.{signed_by};
+
+pub mod numbered;
 
 // The magnitude m with the sign of z.
 pub fn with_sign(z: i64, m: u64) -> i64
@@ -29,5 +32,5 @@ pub fn product(a: i64, b: i64) -> i64
 pub fn weighed(figure: i32, weight: u32) -> i64
     ensures { result ≡ figure *ℤ pos weight }
 {
-    figure as i64 * weight as i64
+    i64::from(figure) * i64::from(weight)
 }

@@ -1,0 +1,24 @@
+// A list of up to N items. Unlike a vector it may be copied.
+ghost use Rattle.std.specs.Prelude.{◌≡◌, ℕ, ◌≤◌};
+
+use std::alloc::AllocError;
+
+pub mod items;
+
+pub struct BoundedList<T, const N: usize> {
+    slots: [T; N],
+    count: usize,
+    ghost within: { count ≤ N },
+}
+
+impl<T: Copy, const N: usize> Clone for BoundedList<T, N> {
+    ghost is_clone = { λ list copy. copy ≡ list };
+
+    ghost is_infallible = { λ _. Unit };
+
+    fn clone(&self) -> Result<Self, AllocError> {
+        Ok(*self)
+    }
+}
+
+impl<T: Copy, const N: usize> Copy for BoundedList<T, N> {}
