@@ -56,11 +56,6 @@ refused_flaw t i (flaws.Unfit n) = Unfit n
 abbrev pub refusal_for : SlotFlaw → Refusal
 refusal_for f = refused_flaw f.charge_type f.interval f.flaw
 
--- a walk's answer with its slot
-abbrev pub slotted : ℕ → ℕ → Result ℤ Flaw → Result ℤ SlotFlaw
-slotted t i (Ok total) = Ok total
-slotted t i (Err flaw) = Err (record { charge_type = t; interval = i; flaw = flaw })
-
 -- what a check of the code finds
 abbrev pub raised : {X : Type 0} → Result X Refusal → Finding
 raised (Ok x) = clear

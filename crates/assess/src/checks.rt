@@ -1,23 +1,14 @@
 // The checks of settle and restate, one function each, in the words of the table of refusals.
-ghost use Rattle.std.specs.Prelude.{◌≡◌, true, not, ◌&&◌, length, if◌then◌else◌, ◌==◌, nat_le, nat_lt, unsigned_abs};
+ghost use Rattle.std.specs.Prelude.{◌≡◌, true, not, length, if◌then◌else◌, ◌==◌, nat_le, nat_lt, unsigned_abs};
 ghost use Rattle.law.specs.Steps.{holds_or, loads_from, among};
 ghost use Rattle.assess.specs.Refusals.{raised};
 
 use crate::refusals::Refusal;
 
-pub fn check_slot(intervals: usize, charge_type: u8, interval: usize) -> Result<(), Refusal>
-    ensures { raised result ≡ holds_or (among charge_type 3 && among interval intervals) 31 0 }
-{
-    if charge_type < 1 || charge_type > 3 || interval < 1 || interval > intervals {
-        return Err(Refusal::NoSlot);
-    }
-    Ok(())
-}
-
 pub fn check_party(parties: usize, party: usize) -> Result<(), Refusal>
     ensures { raised result ≡ holds_or (among party parties) 39 0 }
 {
-    if party < 1 || party > parties {
+    if !(1..=parties).contains(&party) {
         return Err(Refusal::NoParty);
     }
     Ok(())
@@ -35,12 +26,10 @@ pub fn check_count(parties: usize, loads: &[u32]) -> Result<(), Refusal>
 pub fn check_loads(loads: &[u32]) -> Result<(), Refusal>
     ensures { raised result ≡ loads_from 1 loads.now }
 {
-    for k in 0..loads.len() {
-        if loads[k] > 20_000_000 {
-            return Err(Refusal::Loads(k + 1));
-        }
+    match loads.iter().position(|load| *load > 20_000_000) {
+        Some(before) => Err(Refusal::Loads(before + 1)),
+        None => Ok(()),
     }
-    Ok(())
 }
 
 pub fn check_stands(stands: bool, wanted: bool) -> Result<(), Refusal>
@@ -55,7 +44,7 @@ pub fn check_stands(stands: bool, wanted: bool) -> Result<(), Refusal>
 pub fn check_total(total: i64) -> Result<(), Refusal>
     ensures { raised result ≡ holds_or (nat_le (unsigned_abs total) 5000000000) 37 0 }
 {
-    if total > 5_000_000_000 || total < -5_000_000_000 {
+    if !(-5_000_000_000..=5_000_000_000).contains(&total) {
         return Err(Refusal::Total);
     }
     Ok(())

@@ -4,3 +4,4 @@
 pub mod assessing;
 pub mod checks;
 pub mod refusals;
+pub mod slots;

@@ -3,9 +3,10 @@ ghost use Rattle.std.specs.Prelude.{◌≡◌};
 ghost use Rattle.assess.specs.Refusals.{number_of, place_of, refusal_for};
 
 use charges::fault::Fault;
+use numbers::numbered::Numbered;
 use walk::flaw::Flaw;
 
-#[derive(Clone, Copy)]
+#[derive(Clone, Copy, PartialEq, Eq, Debug)]
 pub enum Refusal {
     // opening: a size is outside, or too few slots or entries are handed in
     Size,
@@ -18,6 +19,7 @@ pub enum Refusal {
     // the source has more than 256 lines
     ManyLines,
     // a line is a fault: the slot, the line that was asked for, and the fault whole
+    // Kept: the slot by its two numbers, as the caller named it.
     Faulty {
         charge_type: u8,
         interval: usize,
@@ -35,7 +37,8 @@ pub enum Refusal {
 }
 
 // What is wrong with the lines of a source that is settled in a slot.
-#[derive(Clone, Copy)]
+// Kept: the slot by its two numbers, which need not name one, as every caller of `work_out` may tell them.
+#[derive(Clone, Copy, PartialEq, Eq, Debug)]
 pub struct SlotFlaw {
     pub charge_type: u8,
     pub interval: usize,
@@ -59,11 +62,12 @@ impl From<SlotFlaw> for Refusal {
     }
 }
 
-impl Refusal {
-    // The refusal's number.
-    pub fn number(&self) -> u8
-        ensures { result ≡ number_of self.now }
-    {
+impl Numbered for Refusal {
+    ghost numbered = { number_of };
+
+    ghost placed = { place_of };
+
+    fn number(&self) -> u8 {
         match self {
             Refusal::Size => 61,
             Refusal::NoSlot => 31,
@@ -78,14 +82,10 @@ impl Refusal {
         }
     }
 
-    // The place of the first offender, 0 where the refusal has none.
-    pub fn place(&self) -> usize
-        ensures { result ≡ place_of self.now }
-    {
+    fn place(&self) -> usize {
         match *self {
             Refusal::Loads(party) => party,
-            Refusal::Faulty { line, .. } => line,
-            Refusal::Unfit(line) => line,
+            Refusal::Faulty { line, .. } | Refusal::Unfit(line) => line,
             Refusal::Size
             | Refusal::NoSlot
             | Refusal::Standing

@@ -1,40 +1,42 @@
--- A loop that writes y at from, from + 1, ..
-use Rattle.std.proofs.Common.{◌≡◌, ℕ, ◌+◌, ◌-◌, ◌<◌, ◌≤◌, ◌≢◌, ◌⊎◌, List, length, get_or, set, ℤ, pos, refl, ◌∙◌, subst, inl, inr, arith, get_or-set_other, get_or-set_same}
-use Rattle.std.proofs.lemmas.Bool.{cases_eq}
+-- A part of a table that was written.
+use Rattle.std.proofs.Common.{◌≡◌, ℕ, ◌+◌, ◌-◌, ◌<◌, ◌≤◌, ◌⊎◌, List, length, get_or, drop, ◌++◌, replicate, ap, ◌∙◌, inl, inr, arith, rules}
+use lib.ListN.{length-replicate}
+use Rattle.std.proofs.lemmas.List.{get_or-replicate, places}
+use borrow.Rule.Slice.PartMut.{put_mid}
 use Rattle.law.specs.Settlements.{Among}
 use Rattle.book.specs.declared.rows.Entry.{Entry}
-use Rattle.book.specs.Model.{Cleared, NowAt, row, blank}
+use Rattle.book.specs.Model.{blank}
 
-pub cleared_none : {X : Type 0} (y : X) (from : ℕ) (d : List X) → Cleared y from 0 d d
-cleared_none y from d = (λ j h k. absurd (omega arith), λ j h. refl)
+-- the places from, .. from + n - 1 are y, and every other is as before
+abbrev pub Cleared : {X : Type 0} → X → ℕ → ℕ → List X → List X → Type 0
+Cleared y from n before after = ((j : ℕ) → from ≤ j → j < from + n → get_or after j y ≡ y) × ((j : ℕ) → (j < from) ⊎ (from + n ≤ j) → get_or after j y ≡ get_or before j y)
 
-pub cleared_more : {X : Type 0} (y : X) (from k : ℕ) (d e : List X) → from + k < length e → Cleared y from k d e → Cleared y from (k + 1) d (set e (from + k) y)
-cleared_more y from k d e lt h = (inside, outside)
+-- of the places from, .. from + n - 1 the one at p - 1 is f p, and every place elsewhere is as before
+abbrev pub NowAt : ℕ → ℕ → (ℕ → Entry) → List Entry → List Entry → Type 0
+NowAt from n f before after = ((p : ℕ) → Among p n → get_or after (from + (p - 1)) blank ≡ f p) × ((j : ℕ) → (j < from) ⊎ (from + n ≤ j) → get_or after j blank ≡ get_or before j blank)
+
+module _ {X : Type 0} (y : X) (from k n : ℕ) (xs ys : List X) (same : k ≡ n) (room : from + n ≤ length xs) (many : length ys ≡ n) where
+  pub part_inside : (j : ℕ) → j < n → get_or (put_mid from k xs ys) (from + j) y ≡ get_or ys j y
+  part_inside j h = search (rules, places)
+
+  pub part_outside : (j : ℕ) → (j < from) ⊎ (from + n ≤ j) → get_or (put_mid from k xs ys) j y ≡ get_or xs j y
+  part_outside j (inl h) = search (rules, places)
+  part_outside j (inr h) = search (rules, places)
+
+  pub part_length : length (put_mid from k xs ys) ≡ length xs
+  part_length = search (rules, places)
+
+pub cleared_part : {X : Type 0} (y : X) (from k n : ℕ) (xs ys : List X) → k ≡ n → from + n ≤ length xs → ys ≡ replicate n y → Cleared y from n xs (put_mid from k xs ys)
+cleared_part y from k n xs ys same room all = (λ j low high. at j (j - from) low (omega arith) (omega arith), part_outside y from k n xs ys same room many)
   where
-    inside : (j : ℕ) → from ≤ j → j < from + (k + 1) → get_or (set e (from + k) y) j y ≡ y
-    inside j a b = elim (cases_eq j (from + k)) [
-      | inl same ↦ rw same (rw get_or-set_same)
-      | inr other ↦ let ne : j ≢ from + k = other in rw get_or-set_other (h.0 j a (omega arith))
-    ]
+    many : length ys ≡ n
+    many = ap length all ∙ simp length-replicate
 
-    outside : (j : ℕ) → (j < from) ⊎ (from + (k + 1) ≤ j) → get_or (set e (from + k) y) j y ≡ get_or d j y
-    outside j o = let ne : j ≢ from + k = omega arith in rw get_or-set_other (h.1 j (elim o [ inl l ↦ inl l | inr r ↦ inr (omega arith) ]))
+    at : (j i : ℕ) → from ≤ j → i < n → from + i ≡ j → get_or (put_mid from k xs ys) j y ≡ y
+    at j i low lt e = rw (← e) (part_inside y from k n xs ys same room many i lt ∙ ap (λ zs. get_or zs i y) all ∙ get_or-replicate n i y y lt)
 
--- a loop that writes a row
-pub row_none : (from : ℕ) (f : ℕ → Entry) (d : List Entry) → NowAt from 0 f d d
-row_none from f d = (λ p a. absurd (omega arith), λ j o. refl)
+pub cleared_start : {X : Type 0} (y : X) (n : ℕ) (xs ys : List X) → n ≤ length xs → ys ≡ replicate n y → Cleared y 0 n xs (ys ++ drop n xs)
+cleared_start y n xs ys room all = rw all (λ j low high. search (rules, places), λ j o. search (rules, places))
 
-abbrev at_place : List ℕ → List ℤ → List ℤ → ℕ → Entry
-at_place loads paid charged k = record { load = get_or loads k 0; paid = get_or paid k (pos 0); charged = get_or charged k (pos 0) }
-
-pub row_more : (from k : ℕ) (loads : List ℕ) (paid charged : List ℤ) (d e : List Entry) → from + k < length e → NowAt from k (row loads paid charged) d e → NowAt from (k + 1) (row loads paid charged) d (set e (from + k) (at_place loads paid charged k))
-row_more from k loads paid charged d e lt h = (inside, outside)
-  where
-    inside : (p : ℕ) → Among p (k + 1) → get_or (set e (from + k) (at_place loads paid charged k)) (from + (p - 1)) blank ≡ row loads paid charged p
-    inside p a = elim (cases_eq k (p - 1)) [
-      | inl same ↦ subst (λ j. get_or (set e (from + k) (at_place loads paid charged k)) (from + j) blank ≡ at_place loads paid charged j) same (get_or-set_same e (from + k) (at_place loads paid charged k) blank lt)
-      | inr other ↦ let ne : from + (p - 1) ≢ from + k = omega arith in get_or-set_other e (from + k) (from + (p - 1)) (at_place loads paid charged k) blank ne ∙ h.0 p (omega arith)
-    ]
-
-    outside : (j : ℕ) → (j < from) ⊎ (from + (k + 1) ≤ j) → get_or (set e (from + k) (at_place loads paid charged k)) j blank ≡ get_or d j blank
-    outside j o = let ne : j ≢ from + k = omega arith in get_or-set_other e (from + k) j (at_place loads paid charged k) blank ne ∙ h.1 j (elim o [ inl l ↦ inl l | inr r ↦ inr (omega arith) ])
+pub written_part : (from k n : ℕ) (f : ℕ → Entry) (xs ys : List Entry) → k ≡ n → from + n ≤ length xs → length ys ≡ n → ((p : ℕ) → Among p n → get_or ys (p - 1) blank ≡ f p) → NowAt from n f xs (put_mid from k xs ys)
+written_part from k n f xs ys same room many at = (λ p a. part_inside blank from k n xs ys same room many (p - 1) (omega arith) ∙ at p a, part_outside blank from k n xs ys same room many)

@@ -1,75 +1,87 @@
 -- What the calls that write leave: the model, and the surplus.
-use Rattle.std.proofs.Common.{◌≡◌, ℕ, ◌+◌, ◌-◌, ◌*◌, ◌<◌, ◌≤◌, ◌≢◌, ◌⊎◌, List, length, get_or, set, ℤ, pos, Some, None, sym, refl, ap, ◌∙◌, subst, inr, mul-le-mul_right, arith, length-set, get_or-set_other, MutBor}
+use Rattle.std.proofs.Common.{◌≡◌, ℕ, ◌+◌, ◌-◌, ◌*◌, ◌<◌, ◌≤◌, ◌≢◌, ◌⊎◌, Bool, true, List, length, get_or, set, ℤ, pos, Some, None, Option, refl, ap, ◌∙◌, subst, inr, mul-le-mul_right, arith, length-set, get_or-set_other}
 use Rattle.law.specs.Settlements as words
-use Rattle.law.specs.Settlements.{Among, SlotOf, Settlement}
-use Rattle.law.specs.Steps.{HoldsNow, Fresh}
+use Rattle.law.specs.Settlements.{Among, SlotOf, Settlement, Lawful}
+use Rattle.law.specs.Steps.{Carried, clear, raises, first, checks, told, HoldsNow, accepted, refused, void}
+use Rattle.assess.specs.declared.slots.SlotId.{SlotId}
+use Rattle.assess.specs.Slots.{type_number, Names, Within}
 use Rattle.book.specs.declared.ledger.Book.{Book}
 use Rattle.book.specs.declared.rows.Slot.{Slot}
 use Rattle.book.specs.declared.rows.Entry.{Entry}
-use Rattle.book.specs.Model.{means, blank, off, on, slot_at, NowAt, Cleared, SurplusStays, entered, row}
-use Rattle.book.specs.Books.{model, SameSurplus, ButEntries, ClearsSlots, ClearsEntries}
-use Rattle.book.proofs.Places.{fresh_cleared}
-use Rattle.book.proofs.Settles.{settled, voided}
+use Rattle.book.specs.Model.{means, blank, off, on, slot_at, entered, row, named}
+use Rattle.book.specs.Books.{model, SameSurplus, Moves}
+use Rattle.book.proofs.Fills.{NowAt, Cleared}
+use Rattle.book.proofs.Places.{slot_under}
+use Rattle.book.proofs.Settles.{settled, voided, step_put, step_refused, void_accepted}
 
 pub none_moved : (slots entries : ℕ) (b : Book) → SameSurplus slots entries b b
 none_moved slots entries b = record { slots_lent = refl; entries_lent = refl; slots_past = (refl, λ j h. refl); entries_past = (refl, λ j h. refl) }
 
--- ---- opening
-module _ (n m : ℕ) (b b1 b2 : Book) (s : ClearsSlots (3 * m) b b1) (e : ClearsEntries 0 (3 * m * n) b1 b2) where
-  slots_cleared : Cleared off 0 (3 * m) b.slots.now b2.slots.now
-  slots_cleared = subst (λ (r : MutBor (List Slot)). Cleared off 0 (3 * m) b.slots.now r.now) (sym e.rest.slots_same) s.rows
+-- a refused settle or restate
+pub put_refused : (w : Bool) (b : Book) (t i : ℕ) (s : Settlement) (k p : ℕ) (f : Option Carried) → Lawful s.rule → raises k p f ≡ first (checks b.parties b.intervals ((model b).stands t i) w t i s.loads s.lines) → Moves b (named w t i s) (refused k p f) b
+put_refused w b t i s k p f law e = record { step = step_refused w (model b) t i s k p f law (ap told e); surplus = none_moved _ _ b; refusal = refl }
 
-  entries_cleared : Cleared blank 0 (3 * m * n) b.entries.now b2.entries.now
-  entries_cleared = subst (λ (r : MutBor (List Entry)). Cleared blank 0 (3 * m * n) r.now b2.entries.now) s.rest.entries_same e.rows
+-- the book c is the book b with the mark of place k, and other entries
+pub record Marked (b c : Book) (k : ℕ) (v : Slot) : Type 0 where
+  pub parties_same : c.parties ≡ b.parties
+  pub intervals_same : c.intervals ≡ b.intervals
+  pub slots_lent : c.slots.ghost_name ≡ b.slots.ghost_name
+  pub entries_lent : c.entries.ghost_name ≡ b.entries.ghost_name
+  pub mark : c.slots.now ≡ set b.slots.now k v
+  pub many : length c.entries.now ≡ length b.entries.now
 
-  pub opened_fresh : Among n 64 → Among m 100 → Fresh n m (means n m b2.slots.now b2.entries.now)
-  opened_fresh a h = fresh_cleared n m b.slots.now b2.slots.now b.entries.now b2.entries.now a h slots_cleared entries_cleared
+module _ (b c : Book) (slot : SlotId) (k : ℕ) (v : Slot) (within : Within b.intervals slot) (at : k ≡ slot_at b.intervals (type_number slot.charge_type) slot.interval) (m : Marked b c k v) where
+  under : k < 3 * b.intervals
+  under = omega (arith, slot_under b.intervals (type_number slot.charge_type) slot.interval within)
 
-  pub opened_surplus : SameSurplus (3 * m) (3 * m * n) b b2
-  opened_surplus = record {
-    slots_lent = ap (λ (r : MutBor (List Slot)). r.ghost_name) e.rest.slots_same ∙ s.rest.lent;
-    entries_lent = e.rest.lent ∙ ap (λ (r : MutBor (List Entry)). r.ghost_name) s.rest.entries_same;
-    slots_past = (ap (λ (r : MutBor (List Slot)). length r.now) e.rest.slots_same ∙ s.rest.many, λ j h. slots_cleared.1 j (inr (omega arith)));
-    entries_past = (e.rest.many ∙ ap (λ (r : MutBor (List Entry)). length r.now) s.rest.entries_same, λ j h. entries_cleared.1 j (inr (omega arith)));
+  same_model : means b.parties b.intervals (set b.slots.now (slot_at b.intervals (type_number slot.charge_type) slot.interval) v) c.entries.now ≡ model c
+  same_model = rw (m.parties_same, m.intervals_same, m.mark, at) refl
+
+  pub marked_surplus : ((j : ℕ) → (j < k * b.parties) ⊎ (k * b.parties + b.parties ≤ j) → get_or c.entries.now j blank ≡ get_or b.entries.now j blank) → SameSurplus (3 * b.intervals) (3 * b.intervals * b.parties) b c
+  marked_surplus f = record {
+    slots_lent = m.slots_lent;
+    entries_lent = m.entries_lent;
+    slots_past = (ap length m.mark ∙ length-set b.slots.now k v, λ j h. let ne : j ≢ k = omega (arith, under) in ap (λ xs. get_or xs j off) m.mark ∙ get_or-set_other b.slots.now k j v off ne);
+    entries_past = (m.many, λ j h. f j (inr (let up : k + 1 ≤ 3 * b.intervals = omega (arith, under) in let le = mul-le-mul_right b.parties up in omega (arith, le))));
   }
 
--- ---- one slot's row written, and then its mark
-module _ (b b1 : Book) (k : ℕ) (rest : ButEntries b b1) where
-  -- the model with the mark v, in the words of the book before
-  same_model : (v : Slot) (j : ℕ) → k ≡ j → means b.parties b.intervals (set b.slots.now j v) b1.entries.now ≡ means b1.parties b1.intervals (set b1.slots.now k v) b1.entries.now
-  same_model v j e =
-      let p = sym rest.parties_same in
-      let q = sym rest.intervals_same in
-      let s = sym rest.slots_same in
-      let f = sym e in
-      λ x. means (p x) (q x) (set (s x).now (f x) v) b1.entries.now
+module _ (b c : Book) (slot : SlotId) (k t i : ℕ) (names : Names slot t i) (within : Within b.intervals slot) (at : k ≡ slot_at b.intervals (type_number slot.charge_type) slot.interval) where
+  pub void_moves : Marked b c k off → (get_or b.slots.now k off).stands ≡ true → Cleared blank (k * b.parties) b.parties b.entries.now c.entries.now → Moves b (void t i) accepted c
+  void_moves m st e =
+      let tn = type_number slot.charge_type in
+      let here = subst (λ j. (get_or b.slots.now j off).stands ≡ true) at st in
+      let holds = voided b.parties b.intervals tn slot.interval b.slots.now b.entries.now c.entries.now within b.slotted (subst (λ x. Cleared blank (x * b.parties) b.parties b.entries.now c.entries.now) at e) in
+      let moves : Moves b (void tn slot.interval) accepted c = record {
+        step = record {
+          lawful = tt;
+          says = void_accepted b.intervals (get_or b.slots.now (slot_at b.intervals tn slot.interval) off).stands tn slot.interval within here;
+          left = subst (λ after. HoldsNow (model b) tn slot.interval None after) (same_model b c slot k off within at m) holds;
+        };
+        surplus = marked_surplus b c slot k off within at m e.1;
+        refusal = tt;
+      } in
+      subst (λ j. Moves b (void t j) accepted c) names.1 (subst (λ u. Moves b (void u slot.interval) accepted c) names.0 moves)
 
-  pub mark_surplus : (v : Slot) → k < 3 * b.intervals → SurplusStays off (3 * b.intervals) b.slots.now (set b1.slots.now k v)
-  mark_surplus v lt = (
-    length-set b1.slots.now k v ∙ ap (λ (r : MutBor (List Slot)). length r.now) rest.slots_same,
-    λ j h. let ne : j ≢ k = omega arith in get_or-set_other b1.slots.now k j v off ne ∙ ap (λ (r : MutBor (List Slot)). get_or r.now j off) rest.slots_same,
-  )
-
-  pub row_surplus : k < 3 * b.intervals → ((j : ℕ) → (j < k * b.parties) ⊎ (k * b.parties + b.parties ≤ j) → get_or b1.entries.now j blank ≡ get_or b.entries.now j blank) → SurplusStays blank (3 * b.intervals * b.parties) b.entries.now b1.entries.now
-  row_surplus lt f = (rest.many, λ j h. f j (inr (let up : k + 1 ≤ 3 * b.intervals = omega arith in let le = mul-le-mul_right b.parties up in omega (arith, le))))
-
-  pub void_holds : (t i : ℕ) → SlotOf b.intervals t i → k ≡ slot_at b.intervals t i → Cleared blank (k * b.parties) b.parties b.entries.now b1.entries.now → HoldsNow (model b) t i None (means b1.parties b1.intervals (set b1.slots.now k off) b1.entries.now)
-  void_holds t i h e f =
-      subst (λ after. HoldsNow (model b) t i None after) (same_model off (slot_at b.intervals t i) e)
-      (voided b.parties b.intervals t i b.slots.now b.entries.now b1.entries.now h b.slotted (subst (λ x. Cleared blank (x * b.parties) b.parties b.entries.now b1.entries.now) e f))
-
-  pub put_holds : (t i : ℕ) (s : Settlement) → SlotOf b.intervals t i → k ≡ slot_at b.intervals t i → NowAt (k * b.parties) b.parties (entered s) b.entries.now b1.entries.now → HoldsNow (model b) t i (Some s) (means b1.parties b1.intervals (set b1.slots.now k on) b1.entries.now)
-  put_holds t i s h e f =
-      subst (λ after. HoldsNow (model b) t i (Some s) after) (same_model on (slot_at b.intervals t i) e)
-      (settled b.parties b.intervals t i b.slots.now b.entries.now b1.entries.now h b.slotted s (subst (λ x. NowAt (x * b.parties) b.parties (entered s) b.entries.now b1.entries.now) e f))
-
--- room for one slot's row
-pub row_room : (b : Book) (k : ℕ) → k < 3 * b.intervals → k * b.parties + b.parties ≤ length b.entries.now
-row_room b k lt = let up : k + 1 ≤ 3 * b.intervals = omega arith in let le = mul-le-mul_right b.parties up in let room = b.entered in omega (arith, le, room)
+  pub put_moves : Marked b c k on → (w : Bool) (s : Settlement) → Lawful s.rule → clear ≡ first (checks b.parties b.intervals ((model b).stands (type_number slot.charge_type) slot.interval) w (type_number slot.charge_type) slot.interval s.loads s.lines) → NowAt (k * b.parties) b.parties (entered s) b.entries.now c.entries.now → Moves b (named w t i s) accepted c
+  put_moves m w s law says e =
+      let tn = type_number slot.charge_type in
+      let holds = settled b.parties b.intervals tn slot.interval b.slots.now b.entries.now c.entries.now within b.slotted s (subst (λ x. NowAt (x * b.parties) b.parties (entered s) b.entries.now c.entries.now) at e) in
+      let moves : Moves b (named w tn slot.interval s) accepted c = record {
+        step = step_put w (model b) tn slot.interval s (model c) law (ap told says) (subst (λ after. HoldsNow (model b) tn slot.interval (Some s) after) (same_model b c slot k on within at m) holds);
+        surplus = marked_surplus b c slot k on within at m e.1;
+        refusal = tt;
+      } in
+      subst (λ j. Moves b (named w t j s) accepted c) names.1 (subst (λ u. Moves b (named w u slot.interval s) accepted c) names.0 moves)
 
 -- a row whose amounts are the settlement's is the settlement's
-pub row_entered : (from n : ℕ) (s : Settlement) (paid charged : List ℤ) (d e : List Entry) → ((p : ℕ) → Among p n → get_or paid (p - 1) (pos 0) ≡ words.source_lines s p) → ((p : ℕ) → Among p n → get_or charged (p - 1) (pos 0) ≡ words.charge_of s p) → NowAt from n (row s.loads paid charged) d e → NowAt from n (entered s) d e
-row_entered from n s paid charged d e f g h = (λ p a. h.0 p a ∙ same p (f p a) (g p a), h.1)
-  where
-    same : (p : ℕ) → get_or paid (p - 1) (pos 0) ≡ words.source_lines s p → get_or charged (p - 1) (pos 0) ≡ words.charge_of s p → row s.loads paid charged p ≡ entered s p
-    same p u v = λ x. record { load = words.load_of s p; paid = u x; charged = v x }
+pub row_entered : (s : Settlement) (paid charged : List ℤ) (p : ℕ) (e : Entry) → e ≡ row s.loads paid charged p → get_or paid (p - 1) (pos 0) ≡ words.source_lines s p → get_or charged (p - 1) (pos 0) ≡ words.charge_of s p → e ≡ entered s p
+row_entered s paid charged p e is u v = is ∙ (λ x. record { load = words.load_of s p; paid = u x; charged = v x })
+
+-- ---- opening
+pub opened_surplus : (slots entries : ℕ) (b c : Book) → c.slots.ghost_name ≡ b.slots.ghost_name → c.entries.ghost_name ≡ b.entries.ghost_name → length c.slots.now ≡ length b.slots.now → length c.entries.now ≡ length b.entries.now → Cleared off 0 slots b.slots.now c.slots.now → Cleared blank 0 entries b.entries.now c.entries.now → SameSurplus slots entries b c
+opened_surplus slots entries b c n k l m e f = record {
+  slots_lent = n;
+  entries_lent = k;
+  slots_past = (l, λ j h. e.1 j (inr (omega arith)));
+  entries_past = (m, λ j h. f.1 j (inr (omega arith)));
+}

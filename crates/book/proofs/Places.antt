@@ -6,7 +6,8 @@ use Rattle.law.specs.Settlements.{Among, SlotOf}
 use Rattle.law.specs.Steps.{Fresh}
 use Rattle.book.specs.declared.rows.Slot.{Slot}
 use Rattle.book.specs.declared.rows.Entry.{Entry}
-use Rattle.book.specs.Model.{means, blank, off, slot_at, entry_at, seen, Cleared}
+use Rattle.book.specs.Model.{means, blank, off, slot_at, entry_at, seen}
+use Rattle.book.proofs.Fills.{Cleared}
 
 pub slot_under : (m t i : ℕ) → SlotOf m t i → slot_at m t i < 3 * m
 slot_under m t i h = omega (arith, mul-add-lt (t - 1) m (i - 1) 3 (omega arith) (omega arith))
@@ -36,7 +37,3 @@ fresh_cleared n m slots slots' entries entries' a b e f = record {
   none_stands = λ t i h. ap (λ s. s.stands) (e.0 (slot_at m t i) (omega arith) (let k = slot_under m t i h in omega arith));
   keeps_none = λ t i p h q. ap seen (f.0 (entry_at n m t i p) (omega arith) (let k = entry_under n m t i p h q in omega arith));
 }
-
--- the place of a party's entry in a table long enough
-pub entry_below : (n m t i p k len : ℕ) → SlotOf m t i → Among p n → k ≡ slot_at m t i → 3 * m * n ≤ len → k * n + (p - 1) < len
-entry_below n m t i p k len h a e room = let lt = entry_under n m t i p h a in let same = ap (λ j. j * n) e in omega (arith, lt, same, room)

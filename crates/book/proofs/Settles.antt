@@ -6,7 +6,8 @@ use Rattle.law.specs.Steps.{Carried, HoldsNow, Step, accepted, refused, told, fi
 use Rattle.law.proofs.Table.{so_among}
 use Rattle.book.specs.declared.rows.Slot.{Slot}
 use Rattle.book.specs.declared.rows.Entry.{Entry}
-use Rattle.book.specs.Model.{means, blank, off, on, slot_at, entry_at, seen, NowAt, Cleared, entered, named}
+use Rattle.book.specs.Model.{means, blank, off, on, slot_at, entry_at, seen, entered, named}
+use Rattle.book.proofs.Fills.{NowAt, Cleared}
 use Rattle.book.proofs.Places.{other_row, other_slot, slot_under}
 
 pub void_accepted : (m : ℕ) (st : Bool) (t i : ℕ) → SlotOf m t i → st ≡ true → accepted ≡ told (first (void_checks m st t i))

@@ -1,5 +1,6 @@
 -- A book by the law's words, and what a call on it leaves.
-use Rattle.std.specs.Prelude.{◌≡◌, ℕ, ◌*◌, ◌≤◌, List, length, ℤ, Ok, Err, Result}
+use Rattle.std.specs.Prelude.{◌≡◌, ℕ, ◌*◌, ◌≤◌, List, length, Ok, Err, Result}
+use Rattle.charges.specs.Lines.{Line}
 use Rattle.law.specs.Settlements as words
 use Rattle.law.specs.Steps.{Call, Answer, accepted, refused, balance_is, entry_is, Step}
 use Rattle.law.specs.Runs.{Opened}
@@ -7,7 +8,11 @@ use Rattle.book.specs.declared.ledger.Book.{Book}
 use Rattle.assess.specs.declared.refusals.Refusal.{Refusal}
 use Rattle.assess.specs.Refusals.{number_of, place_of, carries}
 use Rattle.book.specs.declared.rows.Told.{Told}
-use Rattle.book.specs.Model.{off, blank, means, SurplusStays, Cleared, NowAt, row}
+use Rattle.book.specs.Model.{off, blank, means, SurplusStays}
+
+-- What a settle or restate brings, from its loads, its source's lines and the meaning of its rule.
+abbrev pub brought : List ℕ → List Line → words.Rule → words.Settlement
+brought loads lines rule = record { loads = loads; lines = lines; rule = rule }
 
 -- What entry tells, by the law's words.
 abbrev pub said_entry : Result Told Refusal → Answer
@@ -52,36 +57,3 @@ pub record OpensAt (parties intervals : ℕ) (b c : Book) : Type 0 where
 abbrev pub Opens : ℕ → ℕ → Book → Result (Unit {0}) Refusal → Book → Type 0
 Opens parties intervals b (Ok x) c = OpensAt parties intervals b c
 Opens parties intervals b (Err e) c = (number_of e ≡ 61) × (place_of e ≡ 0) × (FitsIn parties intervals b → ⊥) × (c ≡ b)
-
--- ---- what the parts of a call write
-
--- All but the entries is as it was.
-pub record ButEntries (b c : Book) : Type 0 where
-  pub parties_same : c.parties ≡ b.parties
-  pub intervals_same : c.intervals ≡ b.intervals
-  pub slots_same : c.slots ≡ b.slots
-  pub lent : c.entries.ghost_name ≡ b.entries.ghost_name
-  pub many : length c.entries.now ≡ length b.entries.now
-
--- All but the slots is as it was.
-pub record ButSlots (b c : Book) : Type 0 where
-  pub parties_same : c.parties ≡ b.parties
-  pub intervals_same : c.intervals ≡ b.intervals
-  pub entries_same : c.entries ≡ b.entries
-  pub lent : c.slots.ghost_name ≡ b.slots.ghost_name
-  pub many : length c.slots.now ≡ length b.slots.now
-
--- The first n slots do not stand, and all else is as it was.
-pub record ClearsSlots (n : ℕ) (b c : Book) : Type 0 where
-  pub rest : ButSlots b c
-  pub rows : Cleared off 0 n b.slots.now c.slots.now
-
--- n entries from a place on are zeros, and all else is as it was.
-pub record ClearsEntries (from n : ℕ) (b c : Book) : Type 0 where
-  pub rest : ButEntries b c
-  pub rows : Cleared blank from n b.entries.now c.entries.now
-
--- The entries of one slot, from a place on, are these loads and amounts, and all else is as it was.
-pub record WritesRow (from : ℕ) (loads : List ℕ) (paid charged : List ℤ) (b c : Book) : Type 0 where
-  pub rest : ButEntries b c
-  pub rows : NowAt from b.parties (row loads paid charged) b.entries.now c.entries.now

@@ -1,9 +1,10 @@
 -- What the rows of a book's tables mean.
-use Rattle.std.specs.Prelude.{◌≡◌, ℕ, ◌+◌, ◌-◌, ◌*◌, ◌<◌, ◌≤◌, Bool, true, false, ◌⊎◌, List, length, get_or, ℤ, pos, slice_index, slice_index_or}
+use Rattle.std.specs.Prelude.{◌≡◌, ℕ, ◌+◌, ◌-◌, ◌*◌, ◌≤◌, Bool, true, false, List, length, get_or, ℤ, pos, slice_index, slice_index_or}
 use Rattle.law.specs.Settlements as words
 use Rattle.law.specs.Steps.{Call, settle, restate}
 use Rattle.book.specs.declared.rows.Slot.{Slot}
 use Rattle.book.specs.declared.rows.Entry.{Entry}
+use Rattle.book.specs.declared.rows.Told.{Told}
 
 -- A slot that does not stand.
 abbrev pub off : Slot
@@ -16,6 +17,10 @@ on = record { stands = true }
 -- An entry of zeros.
 abbrev pub blank : Entry
 blank = record { load = 0; paid = pos 0; charged = pos 0 }
+
+-- What is told of an entry of a slot that stands.
+abbrev pub told_of : Entry → Told
+told_of e = record { stands = true; load = e.load; paid = e.paid; charged = e.charged }
 
 -- Where a slot lies, and an entry.
 abbrev pub slot_at : ℕ → ℕ → ℕ → ℕ
@@ -37,14 +42,6 @@ means parties intervals slots entries = record {
   stands = λ t i. (get_or slots (slot_at intervals t i) off).stands;
   keeps = λ t i p. seen (slice_index_or entries (entry_at parties intervals t i p) blank);
 }
-
--- The places from, .. from + n - 1 are y, and every other is as before.
-abbrev pub Cleared : {X : Type 0} → X → ℕ → ℕ → List X → List X → Type 0
-Cleared y from n before after = ((j : ℕ) → from ≤ j → j < from + n → slice_index_or after j y ≡ y) × ((j : ℕ) → (j < from) ⊎ (from + n ≤ j) → slice_index_or after j y ≡ slice_index_or before j y)
-
--- Of the places from, .. from + n - 1 the one at p - 1 is f p, and every place elsewhere is as before.
-abbrev pub NowAt : ℕ → ℕ → (ℕ → Entry) → List Entry → List Entry → Type 0
-NowAt from n f before after = ((p : ℕ) → words.Among p n → slice_index_or after (from + (p - 1)) blank ≡ f p) × ((j : ℕ) → (j < from) ⊎ (from + n ≤ j) → slice_index_or after j blank ≡ slice_index_or before j blank)
 
 -- As many rows as before, and from the place n on each as it was.
 abbrev pub SurplusStays : {X : Type 0} → X → ℕ → List X → List X → Type 0

@@ -1,246 +1,270 @@
--- Laws of a layer's table: where a resource is, and what a write to a place does.
-use Rattle.std.proofs.Common.{◌≡◌, ℕ, zero, suc, ◌+◌, ◌-◌, ◌<◌, ◌≤◌, Bool, true, false, cond, eqb, ltb, ◌⊎◌, List, [], ◌∷◌, length, get_or, set, ℤ, nat_abs, is_some, Some, None, count_by, Option, sym, refl, ap, ◌∙◌, subst, inl, inr, ⊎_elim, arith}
+-- Laws of a layer's table: where a resource is, and what a write to its place does.
+use Rattle.std.proofs.Common.{◌≡◌, ℕ, zero, suc, ◌+◌, ◌-◌, ◌<◌, ◌≤◌, Bool, true, false, cond, eqb, ltb, List, [], ◌∷◌, length, get_or, set, replicate, ℤ, pos, is_some, Some, None, MatchOption, count_by, find, position, Option, sym, refl, ap, ◌∙◌, subst, ◌⊎◌, inl, inr, ⊎_elim, arith, length-set, get_or-set_same, get_or-set_other}
 use mathlib.Core.Path.{fun_ext}
-use Rattle.std.proofs.lemmas.List.Sums.{sum_by-set, sum_by-cons, count_by-le-length}
-use Rattle.std.proofs.lemmas.Bool.{eqb-true, eqb-false, eq-eqb, ne_eqb, cond_both, cases_Bool, cases_lt, true≢false, lt-ltb, le-ltb, cases_eq}
+use Rattle.std.specs.List.{position_or_len}
+use Rattle.std.specs.Option.{option_map, option_or}
+use Rattle.std.proofs.lemmas.List.Sums.{sum_by-set, sum_by-cons, count_by-le-length, get_or-le-sum_by}
+use Rattle.std.proofs.lemmas.List.Folds.{find_past}
+use Rattle.std.proofs.lemmas.List.Quantifiers.{position-Some}
+use Rattle.std.proofs.lemmas.Bool.{eqb-true, eq-eqb, ne_eqb, cases_Bool, cases_eq, cases_lt, lt-ltb, true≢false}
+use Rattle.std.proofs.lemmas.Option.{none-some}
+use Rattle.std.proofs.lemmas.List.{get_or_default, get_or-replicate, length-replicate}
 use Rattle.charges.specs.declared.figure.Figure.{Figure}
+use Rattle.charges.specs.Refusals.{InRange}
 use Rattle.charges.specs.Settings.{changed}
-use Rattle.charges.specs.Table.{has_number, first_at, first_figure, held_in, held_count, or_zero, Once, Small, Known, own_place, place_for}
+use Rattle.charges.specs.Table.{has_resource, is_free, figure_at, held_in, held_count, Once, Known, place_for}
 
 abbrev tick : Bool → ℕ
 tick b = cond b 1 0
 
-first_here : (x : Figure) (xs : List Figure) (r : ℕ) → has_number r x ≡ true → first_at (x ∷ xs) r ≡ 0
-first_here x xs r e = rw e
+tick_most : (b : Bool) → tick b ≤ 1
+tick_most true = omega arith
+tick_most false = omega arith
 
-first_later : (x : Figure) (xs : List Figure) (r : ℕ) → has_number r x ≡ false → first_at (x ∷ xs) r ≡ suc (first_at xs r)
-first_later x xs r e = let one : 1 + first_at xs r ≡ suc (first_at xs r) = omega arith in rw e one
-
--- where a resource is found, its row has it
-pub found_has : (rows : List Figure) (r : ℕ) (d : Figure) → first_at rows r < length rows → (get_or rows (first_at rows r) d).resource ≡ r
-found_has [] r d h = absurd (omega arith)
-found_has (x ∷ xs) r d h = ⊎_elim
-    (λ e. rw (first_here x xs r e) (eqb-true x.resource r e))
-    (λ e. let f = first_later x xs r e in rw f (found_has xs r d (omega arith)))
-    (cases_Bool (has_number r x))
-
-pub found_held : (rows : List Figure) (r : ℕ) (d : Figure) → first_at rows r < length rows → first_figure rows r ≡ Some (get_or rows (first_at rows r) d).figure
-found_held [] r d h = absurd (omega arith)
-found_held (x ∷ xs) r d h = ⊎_elim
-    (λ e. rw (first_here x xs r e, e))
-    (λ e. let f = first_later x xs r e in rw (f, e) (found_held xs r d (omega arith)))
-    (cases_Bool (has_number r x))
-
-pub absent_held : (rows : List Figure) (r : ℕ) → length rows ≤ first_at rows r → first_figure rows r ≡ None
-absent_held [] r h = refl
-absent_held (x ∷ xs) r h = ⊎_elim
-    (λ e. let f = first_here x xs r e in absurd (omega arith))
-    (λ e. let f = first_later x xs r e in rw e (absent_held xs r (omega arith)))
-    (cases_Bool (has_number r x))
-
--- none in the list has the resource
-pub uncounted_held : (rows : List Figure) (r : ℕ) → count_by (has_number r) rows ≡ 0 → first_figure rows r ≡ None
-uncounted_held [] r h = refl
-uncounted_held (x ∷ xs) r h =
-    let parts = sum_by-cons (λ y. cond (has_number r y) 1 0) x xs in
+-- nothing passes the test
+none_passes : {X : Type 0} (p : X → Bool) (xs : List X) → count_by p xs ≡ 0 → find p xs ≡ None
+none_passes p [] h = refl
+none_passes p (x ∷ xs) h =
+    let parts = sum_by-cons (λ y. tick (p y)) x xs in
     ⊎_elim
-    (λ e. let here : tick (has_number r x) ≡ 1 = rw e in absurd (omega arith))
-    (λ e. rw e (uncounted_held xs r (omega arith)))
-    (cases_Bool (has_number r x))
+    (λ e. let here : tick (p x) ≡ 1 = rw e in absurd (omega arith))
+    (λ e. rw e (none_passes p xs (omega arith)))
+    (cases_Bool (p x))
 
-pub absent_uncounted : (rows : List Figure) (r : ℕ) → length rows ≤ first_at rows r → count_by (has_number r) rows ≡ 0
-absent_uncounted [] r h = refl
-absent_uncounted (x ∷ xs) r h =
-    let parts = sum_by-cons (λ y. cond (has_number r y) 1 0) x xs in
+-- what passes alone is found
+one_passes : {X : Type 0} (p : X → Bool) (xs : List X) (i : ℕ) (d : X) → count_by p xs ≤ 1 → i < length xs → p (get_or xs i d) ≡ true → find p xs ≡ Some (get_or xs i d)
+one_passes p [] i d few h e = absurd (omega arith)
+one_passes p (x ∷ xs) zero d few h e = rw e
+one_passes p (x ∷ xs) (suc i) d few h e =
+    let parts = sum_by-cons (λ y. tick (p y)) x xs in
+    let there : tick (p (get_or xs i d)) ≡ 1 = rw e in
+    let some = get_or-le-sum_by (λ y. tick (p y)) xs i d (omega arith) in
     ⊎_elim
-    (λ e. let f = first_here x xs r e in absurd (omega arith))
-    (λ e. let f = first_later x xs r e in
-    let here : tick (has_number r x) ≡ 0 = rw e in
-    let rest = absent_uncounted xs r (omega arith) in omega arith)
-    (cases_Bool (has_number r x))
+    (λ q. let here : tick (p x) ≡ 1 = rw q in absurd (omega arith))
+    (λ q. rw q (one_passes p xs i d (omega arith) (omega arith) e))
+    (cases_Bool (p x))
+
+-- where no place is found, none passes
+no_position : {X : Type 0} (p : X → Bool) (xs : List X) → length xs ≤ position_or_len p xs → count_by p xs ≡ 0
+no_position p [] h = refl
+no_position p (x ∷ xs) h =
+    let parts = sum_by-cons (λ y. tick (p y)) x xs in
+    ⊎_elim
+    (λ e. let here : position_or_len p (x ∷ xs) ≡ 0 = rw e in absurd (omega arith))
+    (λ e. let later : position_or_len p (x ∷ xs) ≡ 1 + position_or_len p xs = rw e in
+    let none : tick (p x) ≡ 0 = rw e in
+    omega (arith, no_position p xs (omega arith)))
+    (cases_Bool (p x))
+
+-- where a place is found, it passes, and is within the list
+found : {X : Type 0} (p : X → Bool) (xs : List X) (i : ℕ) (d : X) → position p xs ≡ Some i → (i < length xs) × (p (get_or xs i d) ≡ true)
+found p xs i d e = let h = position-Some p xs i d e in (h.0, h.1)
+
+-- where none is, none passes
+none_at : {X : Type 0} (p : X → Bool) (xs : List X) → position p xs ≡ None → count_by p xs ≡ 0
+none_at p xs e = no_position p xs (past (position_or_len p xs) (length xs) e)
+  where
+    past : (i n : ℕ) → cond (ltb i n) (Some i) None ≡ None → n ≤ i
+    past i n e = ⊎_elim (λ lt. absurd (none-some i (sym (rw (lt-ltb i n lt) at e)))) (λ le. le) (cases_lt i n)
 
 -- with no free place, as many are held as there are places
-pub full_size : (rows : List Figure) → length rows ≤ first_at rows 0 → held_count rows ≡ length rows
-full_size [] h = refl
-full_size (x ∷ xs) h =
-    let parts = sum_by-cons (λ y. cond (ltb 0 y.resource) 1 0) x xs in
-    ⊎_elim
-    (λ e. let f = first_here x xs 0 e in absurd (omega arith))
-    (λ e. let f = first_later x xs 0 e in
-    let some : 0 < x.resource = omega (arith, eqb-false x.resource 0 e) in
-    let here : tick (ltb 0 x.resource) ≡ 1 = rw (lt-ltb 0 x.resource some) in
-    let rest = full_size xs (omega arith) in omega arith)
-    (cases_Bool (has_number 0 x))
+full : (rows : List (Option Figure)) → count_by is_free rows ≡ 0 → held_count rows ≡ length rows
+full [] h = refl
+full (None ∷ rows) h = let parts = sum_by-cons (λ row. tick (is_free row)) None rows in absurd (omega arith)
+full (Some held ∷ rows) h =
+    let free = sum_by-cons (λ row. tick (is_free row)) (Some held) rows in
+    let some = sum_by-cons (λ row. tick (is_some row)) (Some held) rows in
+    omega (arith, full rows (omega arith))
 
--- with a free place, fewer are held
-pub free_size : (rows : List Figure) → first_at rows 0 < length rows → held_count rows < length rows
-free_size [] h = absurd (omega arith)
-free_size (x ∷ xs) h =
-    let parts = sum_by-cons (λ y. cond (ltb 0 y.resource) 1 0) x xs in
-    ⊎_elim
-    (λ e. let none : x.resource ≤ 0 = omega (arith, eqb-true x.resource 0 e) in
-    let here : tick (ltb 0 x.resource) ≡ 0 = rw (le-ltb 0 x.resource none) in
-    let most = count_by-le-length (λ y. ltb 0 y.resource) xs in omega arith)
-    (λ e. let f = first_later x xs 0 e in
-    let rest = free_size xs (omega arith) in
-    let most : tick (ltb 0 x.resource) ≤ 1 = cond_both (ltb 0 x.resource) 1 0 (λ k. k ≤ 1) (λ _. omega arith) (λ _. omega arith) in
-    omega arith)
-    (cases_Bool (has_number 0 x))
+-- the row in which resource r has o
+abbrev pub row_of : ℕ → Option ℤ → Option Figure
+row_of r o = option_map (λ f. record { resource = r; figure = f }) o
 
--- a write at or before the first place with the resource
-pub held_written : (rows : List Figure) (i r : ℕ) (x : Figure) → x.resource ≡ r → i ≤ first_at rows r → i < length rows → first_figure (set rows i x) r ≡ Some x.figure
-held_written [] i r x e h l = absurd (omega arith)
-held_written (y ∷ ys) zero r x e h l = rw (eq-eqb x.resource r e)
-held_written (y ∷ ys) (suc i) r x e h l = ⊎_elim
-    (λ q. let f = first_here y ys r q in absurd (omega arith))
-    (λ q. let f = first_later y ys r q in rw q (held_written ys i r x e (omega arith) (omega arith)))
-    (cases_Bool (has_number r y))
+-- a place where resource r may be written: r has it, or it is free and r has none
+pub record Place (rows : List (Option Figure)) (r i : ℕ) : Type 0 where
+  pub within : i < length rows
+  pub others : (k : ℕ) → (k ≡ r → ⊥) → has_resource k (get_or rows i None) ≡ false
+  pub counted : count_by (has_resource r) rows ≡ tick (has_resource r (get_or rows i None))
+  pub held : held_in rows r ≡ figure_at (get_or rows i None)
 
--- a write at a place that neither had the resource k nor has it now
-pub held_others : (rows : List Figure) (i k : ℕ) (x d : Figure) → (x.resource ≡ k → ⊥) → ((get_or rows i d).resource ≡ k → ⊥) → first_figure (set rows i x) k ≡ first_figure rows k
-held_others [] i k x d new old = refl
-held_others (y ∷ ys) zero k x d new old = rw (ne_eqb x.resource k new, ne_eqb y.resource k old)
-held_others (y ∷ ys) (suc i) k x d new old = rw (held_others ys i k x d new old)
+-- a row that has r has no other
+only : (row : Option Figure) (r k : ℕ) → has_resource r row ≡ true → (k ≡ r → ⊥) → has_resource k row ≡ false
+only None r k e ne = refl
+only (Some held) r k e ne = ne_eqb held.resource k (λ q. ne (sym q ∙ eqb-true held.resource r e))
 
--- what a write does to a count
-pub count_written : (p : Figure → Bool) (rows : List Figure) (i : ℕ) (x d : Figure) → i < length rows → count_by p (set rows i x) + cond (p (get_or rows i d)) 1 0 ≡ count_by p rows + cond (p x) 1 0
-count_written p rows i x d h = sum_by-set (λ y. cond (p y) 1 0) rows i x d h
+pub own_place : (rows : List (Option Figure)) (r i : ℕ) → Once rows → position (has_resource r) rows ≡ Some i → Place rows r i
+own_place rows r i once e =
+    let at = found (has_resource r) rows i None e in
+    let one : tick (has_resource r (get_or rows i None)) ≡ 1 = rw at.1 in
+    record {
+      within = at.0;
+      others = λ k ne. only (get_or rows i None) r k at.1 ne;
+      counted = omega (arith, once r, get_or-le-sum_by (λ row. tick (has_resource r row)) rows i None at.0);
+      held = rw (one_passes (has_resource r) rows i None (once r) at.0 at.1);
+    }
 
--- after a write resource r has o, n are held, and each other resource has what it had
-pub record Wrote (rows after : List Figure) (r : ℕ) (o : Option ℤ) (n : ℕ) : Type 0 where
-  pub held : (k : ℕ) → 1 ≤ k → first_figure after k ≡ cond (eqb k r) o (first_figure rows k)
-  pub size : held_count after ≡ n
+pub no_place : (rows : List (Option Figure)) (r : ℕ) → position (has_resource r) rows ≡ None → held_in rows r ≡ None
+no_place rows r e = rw (none_passes (has_resource r) rows (none_at (has_resource r) rows e))
+
+free_row : (row : Option Figure) → is_free row ≡ true → row ≡ None
+free_row None e = refl
+free_row (Some held) e = absurd (true≢false (sym e))
+
+pub free_place : (rows : List (Option Figure)) (r i : ℕ) → position (has_resource r) rows ≡ None → position is_free rows ≡ Some i → Place rows r i
+free_place rows r i e f =
+    let at = found is_free rows i None f in
+    let free = free_row (get_or rows i None) at.1 in
+    let gone = none_at (has_resource r) rows e in
+    record {
+      within = at.0;
+      others = λ k ne. rw free;
+      counted = rw free gone;
+      held = rw (free, none_passes (has_resource r) rows gone);
+    }
+
+-- where a place is free, fewer are held than there are places
+pub fewer : (rows : List (Option Figure)) (i : ℕ) → position is_free rows ≡ Some i → held_count rows < length rows
+fewer rows i f =
+    let at = found is_free rows i None f in
+    let free : tick (is_some (get_or rows i None)) ≡ 0 = rw (free_row (get_or rows i None) at.1) in
+    let row : Option Figure = Some (record { resource = 1; figure = pos 0 }) in
+    omega (arith, sum_by-set (λ x. tick (is_some x)) rows i row None at.0, count_by-le-length is_some (set rows i row), length-set rows i row)
+
+-- after a write resource r has o, and each other resource has what it had
+pub record Wrote (rows after : List (Option Figure)) (r : ℕ) (o : Option ℤ) : Type 0 where
+  pub map : held_in after ≡ changed (held_in rows) r o
+  pub size : held_count after + tick (is_some (held_in rows r)) ≡ held_count rows + tick (is_some o)
+  pub many : length after ≡ length rows
   pub once : Once after
 
-tick_on : (y : Figure) → 1 ≤ y.resource → tick (ltb 0 y.resource) ≡ 1
-tick_on y h = rw (lt-ltb 0 y.resource h)
+some_row : (r : ℕ) (o : Option ℤ) → is_some (row_of r o) ≡ is_some o
+some_row r None = refl
+some_row r (Some f) = refl
 
-tick_off : (y : Figure) → y.resource ≡ 0 → tick (ltb 0 y.resource) ≡ 0
-tick_off y h = rw (le-ltb 0 y.resource (omega arith))
+some_figure : (row : Option Figure) → is_some (figure_at row) ≡ is_some row
+some_figure None = refl
+some_figure (Some held) = refl
 
-tick_has : (y : Figure) (k : ℕ) → y.resource ≡ k → tick (has_number k y) ≡ 1
-tick_has y k h = rw (eq-eqb y.resource k h)
+back : (r : ℕ) (o : Option ℤ) → figure_at (row_of r o) ≡ o
+back r None = refl
+back r (Some f) = refl
 
-tick_lacks : (y : Figure) (k : ℕ) → (y.resource ≡ k → ⊥) → tick (has_number k y) ≡ 0
-tick_lacks y k h = rw (ne_eqb y.resource k h)
+other_row : (r : ℕ) (o : Option ℤ) (k : ℕ) → (k ≡ r → ⊥) → has_resource k (row_of r o) ≡ false
+other_row r None k ne = refl
+other_row r (Some f) k ne = ne_eqb r k (λ q. ne (sym q))
 
-module _ (rows : List Figure) (r : ℕ) (x : Figure) (i : ℕ) (within : i < length rows) (low : 1 ≤ r) (own : Once rows) where
-  -- a row for r goes where r was
-  pub wrote_own : i ≡ first_at rows r → x.resource ≡ r → Wrote rows (set rows i x) r (Some x.figure) (held_count rows)
-  wrote_own at new =
-      let old : (get_or rows i x).resource ≡ r = rw at (found_has rows r x (omega arith)) in
-      record {
-        held = λ k h. ⊎_elim
-            (λ same. rw (eq-eqb k r same, same) (held_written rows i r x new (omega arith) within))
-            (λ ne. rw (ne_eqb k r ne) (held_others rows i k x x (λ q. ne (sym q ∙ new)) (λ q. ne (sym q ∙ old))))
-            (cases_eq k r);
-        size = omega (arith, count_written (λ y. ltb 0 y.resource) rows i x x within, tick_on x (omega arith), tick_on (get_or rows i x) (omega arith));
-        once = λ k h. omega (arith, own k h, count_written (has_number k) rows i x x within, ap (λ m. tick (eqb m k)) (old ∙ sym new));
-      }
+-- what is written at r's place is all that r has
+alone : (rows : List (Option Figure)) (r i : ℕ) (o : Option ℤ) → i < length rows → count_by (has_resource r) rows ≡ tick (has_resource r (row_of r o)) → get_or rows i None ≡ row_of r o → held_in rows r ≡ o
+alone rows r i None h few e = rw (none_passes (has_resource r) rows few)
+alone rows r i (Some f) h few e =
+    let here : has_resource r (get_or rows i None) ≡ true = rw e (eq-eqb r r refl) in
+    let one : tick (eqb r r) ≡ 1 = rw (eq-eqb r r refl) in
+    rw (one_passes (has_resource r) rows i None (omega arith) h here, e)
 
-  -- a row for r goes to a free place
-  pub wrote_free : i ≡ first_at rows 0 → length rows ≤ first_at rows r → x.resource ≡ r → Wrote rows (set rows i x) r (Some x.figure) (held_count rows + 1)
-  wrote_free at absent new =
-      let old : (get_or rows i x).resource ≡ 0 = rw at (found_has rows 0 x (omega arith)) in
-      record {
-        held = λ k h. ⊎_elim
-            (λ same. rw (eq-eqb k r same, same) (held_written rows i r x new (omega arith) within))
-            (λ ne. rw (ne_eqb k r ne) (held_others rows i k x x (λ q. ne (sym q ∙ new)) (λ q. omega arith)))
-            (cases_eq k r);
-        size = omega (arith, count_written (λ y. ltb 0 y.resource) rows i x x within, tick_on x (omega arith), tick_off (get_or rows i x) old);
-        once = λ k h. ⊎_elim
-            (λ same. let none : count_by (has_number k) rows ≡ 0 = rw same (absent_uncounted rows r absent) in
-            omega (arith, count_written (has_number k) rows i x x within, tick_has x k (new ∙ sym same), tick_lacks (get_or rows i x) k (λ q. omega arith)))
-            (λ ne. omega (arith, own k h, count_written (has_number k) rows i x x within, tick_lacks x k (λ q. ne (sym q ∙ new)), tick_lacks (get_or rows i x) k (λ q. omega arith)))
-            (cases_eq k r);
-      }
+pub written : (rows : List (Option Figure)) (r i : ℕ) (o : Option ℤ) → Once rows → Place rows r i → Wrote rows (set rows i (row_of r o)) r o
+written rows r i o once place =
+    let row = row_of r o in
+    let after = set rows i row in
+    let within = place.within in
+    let count : (k : ℕ) → count_by (has_resource k) after + tick (has_resource k (get_or rows i None)) ≡ count_by (has_resource k) rows + tick (has_resource k row) = λ k. sum_by-set (λ x. tick (has_resource k x)) rows i row None within in
+    let here : get_or after i None ≡ row = get_or-set_same rows i row None within in
+    let inside : i < length after = omega (arith, length-set rows i row) in
+    record {
+      map = fun_ext (λ k. ⊎_elim
+          (λ same. rw (eq-eqb k r same, same) (alone after r i o inside (omega (arith, count r, place.counted)) here))
+          (λ ne. rw (ne_eqb k r ne, find_past (has_resource k) rows i row None (place.others k ne) (other_row r o k ne)))
+          (cases_eq k r));
+      size = rw (place.held, some_figure (get_or rows i None), ← some_row r o) (sum_by-set (λ x. tick (is_some x)) rows i row None within);
+      many = length-set rows i row;
+      once = λ k. ⊎_elim
+          (λ same. rw same (omega (arith, count r, place.counted, tick_most (has_resource r row))))
+          (λ ne. let old : tick (has_resource k (get_or rows i None)) ≡ 0 = rw (place.others k ne) in
+          let new : tick (has_resource k row) ≡ 0 = rw (other_row r o k ne) in
+          omega (arith, count k, once k))
+          (cases_eq k r);
+    }
 
-  -- the place of r is freed
-  pub wrote_none : i ≡ first_at rows r → x.resource ≡ 0 → Wrote rows (set rows i x) r None (held_count rows - 1)
-  wrote_none at new =
-      let old : (get_or rows i x).resource ≡ r = rw at (found_has rows r x (omega arith)) in
-      record {
-        held = λ k h. ⊎_elim
-            (λ same. let gone : count_by (has_number r) (set rows i x) ≡ 0 = omega (arith, own r low, count_written (has_number r) rows i x x within, tick_has (get_or rows i x) r old, tick_lacks x r (λ q. omega arith)) in
-            rw (eq-eqb k r same, same) (uncounted_held (set rows i x) r gone))
-            (λ ne. rw (ne_eqb k r ne) (held_others rows i k x x (λ q. omega arith) (λ q. ne (sym q ∙ old))))
-            (cases_eq k r);
-        size = omega (arith, count_written (λ y. ltb 0 y.resource) rows i x x within, tick_off x new, tick_on (get_or rows i x) (omega arith));
-        once = λ k h. omega (arith, own k h, count_written (has_number k) rows i x x within, tick_lacks x k (λ q. omega arith));
-      }
+-- what is held is still in range
+known_row : (r : ℕ) (o : Option ℤ) → MatchOption o (Unit {0}) (λ f. InRange r f) → MatchOption (row_of r o) (Unit {0}) (λ held. InRange held.resource held.figure)
+known_row r None ok = tt
+known_row r (Some f) ok = ok
 
--- 0 is never held, and any other number at its first place
-pub held_some : (rows : List Figure) (r : ℕ) → 1 ≤ r → held_in rows r ≡ first_figure rows r
-held_some rows r h = rw (lt-ltb 0 r h)
+pub known_written : (rows : List (Option Figure)) (r i : ℕ) (o : Option ℤ) → i < length rows → MatchOption o (Unit {0}) (λ f. InRange r f) → Known rows → Known (set rows i (row_of r o))
+known_written rows r i o within ok known held at =
+    let row = row_of r o in
+    let k : ℕ = at.0 in
+    let inside : k < length rows = omega (arith, at.1, length-set rows i row) in
+    ⊎_elim
+    (λ same. let is : row ≡ Some held = sym (get_or-set_same rows i row (Some held) within) ∙ ap (λ j. get_or (set rows i row) j (Some held)) (sym same) ∙ at.2 in
+    let P : Option Figure → Type 0 = λ x. MatchOption x (Unit {0}) (λ h. InRange h.resource h.figure) in
+    subst P is (known_row r o ok))
+    (λ ne. known held (k, inside, sym (get_or-set_other rows i k row (Some held) ne) ∙ at.2))
+    (cases_eq k i)
 
--- the map after a write
-pub wrote_map : {rows after : List Figure} {r n : ℕ} {o : Option ℤ} → Wrote rows after r o n → 1 ≤ r → (k : ℕ) → held_in after k ≡ changed (held_in rows) r o k
-wrote_map {rows} {after} {r} {n} {o} w low zero = let ne : 0 ≡ r → ⊥ = λ q. omega arith in rw (ne_eqb 0 r ne)
-wrote_map {rows} {after} {r} {n} {o} w low (suc k) =
-    let some : 1 ≤ suc k = omega arith in
-    held_some after (suc k) some ∙ w.held (suc k) some ∙ ap (λ p. cond (eqb (suc k) r) o p) (sym (held_some rows (suc k) some))
+-- nothing is held where every place is free
+pub known_free : (n : ℕ) → Known (replicate n None)
+known_free n held at = absurd (none-some held (sym (get_or-replicate n at.0 None (Some held) (rw length-replicate at at.1)) ∙ at.2))
 
-pub wrote_small : {rows after : List Figure} {r n : ℕ} {o : Option ℤ} → Wrote rows after r o n → 1 ≤ r → nat_abs (or_zero o) ≤ 1000000000 → Small rows → Small after
-wrote_small {rows} {r = r} {o = o} w low h own k =
-    rw (wrote_map w low k) (cond_both (eqb k r) o (held_in rows k) (λ p. nat_abs (or_zero p) ≤ 1000000000) (λ _. h) (λ _. own k))
+-- what stands at r's place
+own_row : (rows : List (Option Figure)) (r i : ℕ) → position (has_resource r) rows ≡ Some i → (held : Figure) × (get_or rows i (Some held) ≡ Some held) × (held.resource ≡ r) × (i < length rows)
+own_row rows r i e =
+    let at = found (has_resource r) rows i None e in
+    of (get_or rows i None) refl at.1 at.0
+  where
+    of : (row : Option Figure) → get_or rows i None ≡ row → has_resource r row ≡ true → i < length rows → (held : Figure) × (get_or rows i (Some held) ≡ Some held) × (held.resource ≡ r) × (i < length rows)
+    of None e h lt = absurd (true≢false (sym h))
+    of (Some held) e h lt = (held, get_or_default rows i (Some held) None lt ∙ e, eqb-true held.resource r h, lt)
 
-pub wrote_known : {rows after : List Figure} {r n : ℕ} {o : Option ℤ} → Wrote rows after r o n → 1 ≤ r → (is_some o ≡ true → r ≤ 9999) → Known rows → Known after
-wrote_known {rows} {r = r} {o = o} w low h own k some =
-    cond_both (eqb k r) o (held_in rows k) (λ p. is_some p ≡ true → k ≤ 9999) (λ t s. omega (arith, h s, eqb-true k r t)) (λ _. own k) (subst (λ p. is_some p ≡ true) (wrote_map w low k) some)
+pub own_known : (rows : List (Option Figure)) (r i : ℕ) → Known rows → position (has_resource r) rows ≡ Some i → (1 ≤ r) × (r ≤ 9999)
+own_known rows r i known e =
+    let own = own_row rows r i e in
+    let ok = known own.0 (i, own.3, own.1) in
+    (omega (arith, ok.0, own.2), omega (arith, ok.1, own.2))
 
--- what the place of its own tells
-pub own_low : (rows : List Figure) (r i : ℕ) → i ≡ own_place rows r → i < 32 → 1 ≤ r
-own_low rows zero i e h = absurd (omega arith)
-own_low rows (suc m) i e h = omega arith
+pub own_held : (rows : List (Option Figure)) (r i : ℕ) → Once rows → position (has_resource r) rows ≡ Some i → is_some (held_in rows r) ≡ true
+own_held rows r i once e = ap is_some (own_place rows r i once e).held ∙ of (get_or rows i None) (found (has_resource r) rows i None e).1
+  where
+    of : (row : Option Figure) → has_resource r row ≡ true → is_some (figure_at row) ≡ true
+    of None h = h
+    of (Some held) h = refl
 
-pub own_first : (rows : List Figure) (r i : ℕ) → i ≡ own_place rows r → 1 ≤ r → i ≡ first_at rows r
-own_first rows r i e low = e ∙ rw (lt-ltb 0 r low)
+-- the place of one of two searches
+or_some : (o p : Option ℕ) (i : ℕ) → option_or o p ≡ Some i → (o ≡ Some i) ⊎ ((o ≡ None) × (p ≡ Some i))
+or_some None p i e = inr (refl, e)
+or_some (Some x) p i e = inl e
 
-pub own_held : (rows : List Figure) (r i : ℕ) (d : Figure) → i ≡ own_place rows r → length rows ≡ 32 → i < 32 → held_in rows r ≡ Some (get_or rows i d).figure
-own_held rows r i d e many h =
-    let low = own_low rows r i e h in
-    let at = own_first rows r i e low in
-    held_some rows r low ∙ found_held rows r d (omega arith) ∙ ap (λ k. Some (get_or rows k d).figure) (sym at)
+or_none : (o p : Option ℕ) → option_or o p ≡ None → (o ≡ None) × (p ≡ None)
+or_none None p e = (refl, e)
+or_none (Some x) p e = absurd (none-some x (sym e))
 
-pub own_none : (rows : List Figure) (r i : ℕ) → i ≡ own_place rows r → length rows ≡ 32 → 32 ≤ i → held_in rows r ≡ None
-own_none rows zero i e many h = refl
-own_none rows (suc m) i e many h =
-    let low : 1 ≤ suc m = omega arith in
-    let at = own_first rows (suc m) i e low in
-    held_some rows (suc m) low ∙ absent_held rows (suc m) (omega arith)
+pub or_else_is : {P : Type 0} (o r p : Option ℕ) → MatchOption o P (λ x. r ≡ Some x) → (P → r ≡ p) → r ≡ option_or o p
+or_else_is None r p h is = is h
+or_else_is (Some x) r p h is = h
 
 -- a setting finds a place exactly where there is one
-module _ (rows : List Figure) (r i : ℕ) (many : length rows ≡ 32) (low : 1 ≤ r) (at : i ≡ place_for rows r) where
-  pub set_wrote : (x : Figure) → i < 32 → Once rows → x.resource ≡ r → Wrote rows (set rows i x) r (Some x.figure) (cond (is_some (held_in rows r)) (held_count rows) (held_count rows + 1)) × ((is_some (held_in rows r) ≡ true) ⊎ (held_count rows < 32))
-  set_wrote x within own new = ⊎_elim
-      (λ here. let first : i ≡ first_at rows r = at ∙ rw (lt-ltb (first_at rows r) 32 here) in
-      let yes : is_some (held_in rows r) ≡ true = ap is_some (held_some rows r low ∙ found_held rows r x (omega arith)) in
-      (rw yes (wrote_own rows r x i (omega arith) low own first new), inl yes))
-      (λ gone. let free : i ≡ first_at rows 0 = at ∙ rw (le-ltb (first_at rows r) 32 gone) in
-      let no : is_some (held_in rows r) ≡ false = ap is_some (held_some rows r low ∙ absent_held rows r (omega arith)) in
-      (rw no (wrote_free rows r x i (omega arith) low own free (omega arith) new), inr (omega (arith, free_size rows (omega arith)))))
-      (cases_lt (first_at rows r) 32)
+pub set_place : (rows : List (Option Figure)) (r i : ℕ) → length rows ≡ 32 → Once rows → place_for rows r ≡ Some i → Place rows r i × ((is_some (held_in rows r) ≡ true) ⊎ (held_count rows < 32))
+set_place rows r i many once e = ⊎_elim
+    (λ own. (own_place rows r i once own, inl (own_held rows r i once own)))
+    (λ free. (free_place rows r i free.0 free.1, inr (omega (arith, fewer rows i free.1))))
+    (or_some (position (has_resource r) rows) (position is_free rows) i e)
 
-  pub set_full : 32 ≤ i → (is_some (held_in rows r) ≡ true) ⊎ (held_count rows < 32) → ⊥
-  set_full past has = ⊎_elim
-      (λ here. let first : i ≡ first_at rows r = at ∙ rw (lt-ltb (first_at rows r) 32 here) in omega arith)
-      (λ gone. let free : i ≡ first_at rows 0 = at ∙ rw (le-ltb (first_at rows r) 32 gone) in
-      let no : is_some (held_in rows r) ≡ false = ap is_some (held_some rows r low ∙ absent_held rows r (omega arith)) in
-      ⊎_elim (λ yes. let z : ◌≡◌ {A = Bool} true false = sym yes ∙ no in true≢false z) (λ less. omega (arith, full_size rows (omega arith))) has)
-      (cases_lt (first_at rows r) 32)
+pub set_full : (rows : List (Option Figure)) (r : ℕ) → length rows ≡ 32 → place_for rows r ≡ None → (is_some (held_in rows r) ≡ true) ⊎ (held_count rows < 32) → ⊥
+set_full rows r many e has =
+    let none = or_none (position (has_resource r) rows) (position is_free rows) e in
+    ⊎_elim
+    (λ yes. true≢false (sym yes ∙ ap is_some (no_place rows r none.0)))
+    (λ less. omega (arith, full rows (none_at is_free rows none.1)))
+    has
 
--- a removal, where the resource is held and where it is not
-module _ (rows : List Figure) (r i : ℕ) (many : length rows ≡ 32) (at : i ≡ own_place rows r) where
-  pub remove_wrote : (x : Figure) → i < 32 → Once rows → x.resource ≡ 0 → Wrote rows (set rows i x) r None (cond (is_some (held_in rows r)) (held_count rows - 1) (held_count rows))
-  remove_wrote x within own new =
-      let low = own_low rows r i at within in
-      let yes : is_some (held_in rows r) ≡ true = ap is_some (own_held rows r i x at many within) in
-      rw yes (wrote_none rows r x i (omega arith) low own (own_first rows r i at low) new)
+-- how many are held after a setting, and after a removal
+pub size_more : (b : Bool) (after before : ℕ) → after + tick b ≡ before + 1 → after ≡ cond b before (before + 1)
+size_more true after before e = omega arith
+size_more false after before e = omega arith
 
-  pub remove_none : 32 ≤ i → (held_in rows ≡ changed (held_in rows) r None) × (held_count rows ≡ cond (is_some (held_in rows r)) (held_count rows - 1) (held_count rows))
-  remove_none past =
-      let none = own_none rows r i at many past in
-      (fun_ext (λ k. ⊎_elim (λ same. rw (eq-eqb k r same, same) none) (λ ne. rw (ne_eqb k r ne)) (cases_eq k r)), rw (ap is_some none))
+pub size_less : (b : Bool) (after before : ℕ) → after + tick b ≡ before + 0 → after ≡ cond b (before - 1) before
+size_less true after before e = omega arith
+size_less false after before e = omega arith
 
-pub some_not_none : (z : ℤ) → Some z ≡ None → ⊥
-some_not_none z e = let n : ◌≡◌ {A = ℕ} 0 1 = cc in omega arith
+-- nothing changes where r has nothing
+pub same_map : (rows : List (Option Figure)) (r : ℕ) → held_in rows r ≡ None → held_in rows ≡ changed (held_in rows) r None
+same_map rows r none = fun_ext (λ k. ⊎_elim (λ same. rw (eq-eqb k r same, same) none) (λ ne. rw (ne_eqb k r ne)) (cases_eq k r))

@@ -4,8 +4,8 @@ pub mod Layers
 pub mod Rows
 pub mod Listed
 pub mod SourceLaws
-pub mod Table
 pub mod Refusals
+pub mod Table
 pub mod Settings
 pub mod Period
 pub mod Denial

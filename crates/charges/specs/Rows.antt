@@ -1,5 +1,5 @@
 -- What a source of one line for each row means.
-use Rattle.std.specs.Prelude.{ℕ, ◌+◌, List, [], ◌∷◌, map, slice_index}
+use Rattle.std.specs.Prelude.{ℕ, zero, suc, ◌+◌, List, [], ◌∷◌, map, slice_get, slice_index, None, Option}
 use Rattle.std.specs.List.{range_with_len}
 use Rattle.charges.specs.Lines.{Line}
 
@@ -7,6 +7,11 @@ use Rattle.charges.specs.Lines.{Line}
 abbrev pub numbered : {X Y : Type 0} → (ℕ → X → Y) → ℕ → List X → List Y
 numbered f k [] = []
 numbered f k (x ∷ xs) = f k x ∷ numbered f (k + 1) xs
+
+-- row n, counted from 1, if there is one
+abbrev pub row_at : {R : Type 0} → List R → ℕ → Option R
+row_at rows zero = None
+row_at rows (suc i) = slice_get rows i
 
 -- basis n, counted from 1, where row n rests on f n; 0 where there is no such row
 abbrev pub basis_in : {R : Type 0} → (ℕ → R → ℕ) → List R → ℕ → ℕ

@@ -1,5 +1,6 @@
 -- Laws of lines: those of rows, of layers and of sources made by a function, by number, and their limits. Proved here.
-use Rattle.std.specs.Prelude.{◌≡◌, ℕ, zero, suc, ◌+◌, ◌-◌, ◌<◌, ◌≤◌, ◌||◌, ◌⊎◌, List, [], ◌∷◌, length, Ok, Err, nat_lt, slice_index_or, unsigned_abs, refl}
+use Rattle.std.specs.Prelude.{◌≡◌, ℕ, zero, suc, ◌+◌, ◌-◌, ◌<◌, ◌≤◌, ◌||◌, ◌⊎◌, List, [], ◌∷◌, length, Ok, Err, nat_lt, slice_get, slice_index_or, unsigned_abs, refl}
+use Rattle.std.specs.Option.{option_map_or}
 use Rattle.std.proofs.Common.{sym, ap, ◌∙◌, subst, inl, inr, ⊎_elim, add-one, arith}
 use Rattle.std.proofs.lemmas.List.FromFn.{length-map-range_with_len, get_or-map-range_with_len}
 use Rattle.std.proofs.lemmas.List.{get_or_past, get_or_default}
@@ -8,11 +9,17 @@ use Rattle.charges.specs.declared.listed.ListedRow.{ListedRow}
 use Rattle.charges.specs.Lines.{Entry, Line, line_at, no_line, Ranged, Sound, Based}
 use Rattle.charges.specs.Layers.{on_entry, layered}
 use Rattle.charges.specs.Listed.{listed_line}
-use Rattle.charges.specs.Rows.{numbered, lines_by}
+use Rattle.charges.specs.Rows.{numbered, row_at, lines_by}
 
 pub length_numbered : {X Y : Type 0} (f : ℕ → X → Y) (k : ℕ) (xs : List X) → length (numbered f k xs) ≡ length xs
 length_numbered f k [] = refl
 length_numbered f k (x ∷ xs) = ap suc (length_numbered f (k + 1) xs)
+
+-- what stands at i
+pub get_numbered : {X Y : Type 0} (f : ℕ → X → Y) (k : ℕ) (xs : List X) (i j : ℕ) (none : Y) → k + i ≡ j → slice_index_or (numbered f k xs) i none ≡ option_map_or (f j) (slice_get xs i) none
+get_numbered f k [] i j none e = refl
+get_numbered f k (x ∷ xs) zero j none e = let same : k ≡ j = omega arith in ap (λ m. f m x) same
+get_numbered f k (x ∷ xs) (suc i) j none e = get_numbered f (k + 1) xs i j none (omega arith)
 
 -- with a default that f makes of a default
 pub get_d_numbered : {X Y : Type 0} (f : ℕ → X → Y) (k : ℕ) (xs : List X) (i j : ℕ) (d : X) → k + i ≡ j → slice_index_or (numbered f k xs) i (f j d) ≡ f j (slice_index_or xs i d)
@@ -20,7 +27,12 @@ get_d_numbered f k [] i j d e = refl
 get_d_numbered f k (x ∷ xs) zero j d e = let same : k ≡ j = omega arith in ap (λ m. f m x) same
 get_d_numbered f k (x ∷ xs) (suc i) j d e = get_d_numbered f (k + 1) xs i j d (omega arith)
 
--- what stands at n, counted from 1, of one value for each row
+-- what stands at n, counted from 1, of one value for each row: f of row n, or none
+pub at_numbered : {X Y : Type 0} (f : ℕ → X → Y) (xs : List X) (n : ℕ) (none : Y) → slice_index_or (none ∷ numbered f 1 xs) n none ≡ option_map_or (f n) (row_at xs n) none
+at_numbered f xs zero none = refl
+at_numbered f xs (suc m) none = get_numbered f 1 xs m (suc m) none (omega arith)
+
+-- where there is such a row
 pub at_row : {X Y : Type 0} (f : ℕ → X → Y) (xs : List X) (n : ℕ) (d : X) (none : Y) → 1 ≤ n → n ≤ length xs → slice_index_or (none ∷ numbered f 1 xs) n none ≡ f n (slice_index_or xs (n - 1) d)
 at_row f xs zero d none low high = absurd (omega arith)
 at_row f xs (suc m) d none low high =

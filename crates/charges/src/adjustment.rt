@@ -1,6 +1,6 @@
 // The adjustment layer: it subtracts a resource's figure from its amounts.
-ghost use Rattle.std.specs.Prelude.{◌≡◌, ℕ, ◌≤◌, unsigned_abs};
-ghost use Rattle.numbers.specs.Checks.{OneAnswer};
+ghost use Rattle.std.specs.Prelude.{◌≡◌, ◌≤◌, unsigned_abs};
+ghost use Rattle.numbers.specs.Checks.{Unambiguous};
 ghost use Rattle.charges.specs.Adjustment.{adjusted_entry, adjusted_lines, answer_of, fault_from};
 ghost use Rattle.charges.specs.LayerLaws.{adjusted_sound};
 ghost use Rattle.charges.specs.Layers.{resting};
@@ -10,6 +10,7 @@ ghost use Rattle.charges.specs.declared.adjustment.AdjustFault.TheVariants.{Pass
 
 use crate::fault::{Cause, Fault, Layer};
 use crate::interface::{BasisSource, LineSource};
+use crate::limits::MOST_CENTS;
 use crate::setting::SettingRefusal;
 use crate::table::Table;
 
@@ -52,14 +53,15 @@ impl From<AdjustFault> for Fault {
 
 // The entry with the figure subtracted, if that is in range.
 fn adjust(table: &Table, n: usize, entry: (u16, u8, i64)) -> Result<(u16, u8, i64), AdjustFault>
-    requires { unsigned_abs entry.2 ≤ 3000000000 }
+    requires { unsigned_abs entry.2 ≤ MOST_CENTS }
     ensures { result ≡ adjusted_entry (held_by table.now) n entry }
 {
-    let amount = entry.2 - table.figure(entry.0);
-    if amount < -3_000_000_000 || amount > 3_000_000_000 {
+    let (resource, party, amount) = entry;
+    let adjusted = amount - table.figure(resource);
+    if adjusted.unsigned_abs() > MOST_CENTS {
         return Err(AdjustFault::Beyond(n));
     }
-    Ok((entry.0, entry.1, amount))
+    Ok((resource, party, adjusted))
 }
 
 impl<S: LineSource> Adjustment<S> {
@@ -87,7 +89,7 @@ impl<S: LineSource> Adjustment<S> {
         ensures table { WasSet self.old.table self.new.table resource figure result }
         ensures below { self.new.below ≡ self.old.below }
         ensures kept { KeptOnRefusal result self.old self.new }
-        ensures once { (number place : ℕ) → OneAnswer (checks self.old.table resource figure) number place }
+        ensures once { Unambiguous (checks self.old.table resource figure) }
     {
         self.table.set(resource, figure)
     }
@@ -101,6 +103,7 @@ impl<S: LineSource> Adjustment<S> {
     }
 
     // Line n, adjusted.
+    #[tactic(auto, using(crate::specs::SourceLaws::line_at_layered))]
     fn adjusted(&self, n: usize) -> Result<(u16, u8, i64), AdjustFault>
         ensures { answer_of result ≡ line_at (adjusted_lines (held_by self.now.table) (S.LineSource.lines self.now.below)) n }
     {
@@ -109,18 +112,19 @@ impl<S: LineSource> Adjustment<S> {
     }
 }
 
+// Kept: as in a period.
 impl<S: LineSource> LineSource for Adjustment<S> {
     ghost lines = { λ s. adjusted_lines (held_by s.table) (S.LineSource.lines s.below) };
 
     ghost sound = { λ s. adjusted_sound (held_by s.table) (S.LineSource.lines s.below) (S.LineSource.sound s.below) };
 
+    #[tactic(auto, using(crate::specs::SourceLaws::length_numbered))]
     fn count(&self) -> usize {
         self.below.count()
     }
 
     fn line(&self, n: usize) -> Result<(u16, u8, i64), Fault> {
-        let entry = self.adjusted(n)?;
-        Ok(entry)
+        Ok(self.adjusted(n)?)
     }
 }
 
@@ -128,9 +132,6 @@ impl<S: BasisSource> BasisSource for Adjustment<S> {
     ghost basis_of = { λ s n. resting (line_at (adjusted_lines (held_by s.table) (S.LineSource.lines s.below)) n) (S.BasisSource.basis_of s.below n) };
 
     fn basis(&self, n: usize) -> u32 {
-        match self.adjusted(n) {
-            Ok(_) => self.below.basis(n),
-            Err(_) => 0,
-        }
+        self.adjusted(n).map_or(0, |_| self.below.basis(n))
     }
 }

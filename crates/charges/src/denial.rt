@@ -1,6 +1,6 @@
 // The denial layer: the amounts of the resources that it denies are 0.
-ghost use Rattle.std.specs.Prelude.{◌≡◌, ℕ, pos, is_some};
-ghost use Rattle.numbers.specs.Checks.{OneAnswer};
+ghost use Rattle.std.specs.Prelude.{◌≡◌, pos, is_some};
+ghost use Rattle.numbers.specs.Checks.{Unambiguous};
 ghost use Rattle.charges.specs.Denial.{denied_entry, denied_lines};
 ghost use Rattle.charges.specs.LayerLaws.{denied_sound};
 ghost use Rattle.charges.specs.Settings.{held_by, nothing, size_of, checks, WasSet, WasRemoved, KeptOnRefusal};
@@ -20,11 +20,9 @@ pub struct Denial<S> {
 fn pass(table: &Table, entry: (u16, u8, i64)) -> (u16, u8, i64)
     ensures { result ≡ denied_entry (held_by table.now) entry }
 {
-    if table.holds(entry.0) {
-        (entry.0, entry.1, 0)
-    } else {
-        entry
-    }
+    let (resource, party, amount) = entry;
+    let passed = if table.holds(resource) { 0 } else { amount };
+    (resource, party, passed)
 }
 
 impl<S: LineSource> Denial<S> {
@@ -52,7 +50,7 @@ impl<S: LineSource> Denial<S> {
         ensures table { WasSet self.old.table self.new.table resource (pos 0) result }
         ensures below { self.new.below ≡ self.old.below }
         ensures kept { KeptOnRefusal result self.old self.new }
-        ensures once { (number place : ℕ) → OneAnswer (checks self.old.table resource (pos 0)) number place }
+        ensures once { Unambiguous (checks self.old.table resource (pos 0)) }
     {
         self.table.set(resource, 0)
     }
@@ -66,15 +64,18 @@ impl<S: LineSource> Denial<S> {
     }
 }
 
+// Kept: as in a period.
 impl<S: LineSource> LineSource for Denial<S> {
     ghost lines = { λ s. denied_lines (held_by s.table) (S.LineSource.lines s.below) };
 
     ghost sound = { λ s. denied_sound (held_by s.table) (S.LineSource.lines s.below) (S.LineSource.sound s.below) };
 
+    #[tactic(auto, using(crate::specs::SourceLaws::length_numbered))]
     fn count(&self) -> usize {
         self.below.count()
     }
 
+    #[tactic(auto, using(crate::specs::SourceLaws::line_at_layered))]
     fn line(&self, n: usize) -> Result<(u16, u8, i64), Fault> {
         let entry = self.below.line(n)?;
         Ok(pass(&self.table, entry))

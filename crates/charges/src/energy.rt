@@ -1,9 +1,11 @@
 // The energy that a source's lines rest on.
-ghost use Rattle.std.specs.Prelude.{◌≡◌, ℕ, MatchResult};
-ghost use Rattle.numbers.specs.Checks.{Passed, Refused, OneAnswer};
+ghost use Rattle.std.specs.Prelude.{◌≡◌};
+ghost use Rattle.numbers.specs.Checks.{Answered, Unambiguous};
 ghost use Rattle.charges.specs.Energy.{energy_of, checks, number_of, place_of};
 
 use crate::interface::{BasisSource, LineSource};
+use crate::limits::MOST_LINES;
+use numbers::numbered::Numbered;
 
 // Why no energy is told.
 #[derive(Clone, Copy, PartialEq, Eq, Debug)]
@@ -12,20 +14,19 @@ pub enum EnergyRefusal {
     ManyLines,
 }
 
-impl EnergyRefusal {
-    // The refusal's number.
-    pub fn number(&self) -> u8
-        ensures { result ≡ number_of self.now }
-    {
+impl Numbered for EnergyRefusal {
+    ghost numbered = { number_of };
+
+    ghost placed = { place_of };
+
+    fn number(&self) -> u8 {
         match self {
             EnergyRefusal::ManyLines => 34,
         }
     }
 
-    // The offender's place: it has none.
-    pub fn place(&self) -> usize
-        ensures { result ≡ place_of self.now }
-    {
+    // It has no place.
+    fn place(&self) -> usize {
         match self {
             EnergyRefusal::ManyLines => 0,
         }
@@ -34,16 +35,16 @@ impl EnergyRefusal {
 
 // The sum of the bases.
 pub fn energy<S: BasisSource>(source: &S) -> Result<u64, EnergyRefusal>
-    ensures answer { MatchResult result (λ kwh. Passed (checks (S.LineSource.lines source.now)) × (kwh ≡ energy_of (S.LineSource.lines source.now) (S.BasisSource.basis_of source.now))) (λ refusal. Refused (checks (S.LineSource.lines source.now)) (number_of refusal) (place_of refusal)) }
-    ensures once { (number place : ℕ) → OneAnswer (checks (S.LineSource.lines source.now)) number place }
+    ensures answer { Answered (checks (S.LineSource.lines source.now)) number_of place_of (λ kwh. kwh ≡ energy_of (S.LineSource.lines source.now) (S.BasisSource.basis_of source.now)) result }
+    ensures once { Unambiguous (checks (S.LineSource.lines source.now)) }
 {
     let count = source.count();
-    if count > 256 {
+    if count > MOST_LINES {
         return Err(EnergyRefusal::ManyLines);
     }
-    let mut kwh: u64 = 0;
-    for i in 0..count {
-        kwh += source.basis(i + 1) as u64;
+    let mut kwh = 0;
+    for n in 1..=count {
+        kwh += u64::from(source.basis(n));
     }
     Ok(kwh)
 }

@@ -7,6 +7,7 @@ pub mod energy;
 pub mod fault;
 pub mod figure;
 pub mod interface;
+pub mod limits;
 pub mod listed;
 pub mod period;
 pub mod piled;

@@ -3,6 +3,7 @@ ghost use Rattle.charges.specs.Listed.{listed_line};
 ghost use Rattle.charges.specs.SourceLaws.{listed_ranged};
 
 use crate::fault::{Cause, Fault};
+use crate::limits::{LAST_RESOURCE, MOST_CENTS};
 use crate::reader::{BasisReader, Reader};
 
 #[derive(Clone, Copy)]
@@ -22,10 +23,10 @@ impl Reader<ListedRow> for Listed {
     ghost ranged = { λ s n row. listed_ranged n row };
 
     fn read(&self, n: usize, row: &ListedRow) -> Result<(u16, u8, i64), Fault> {
-        if row.resource < 1 || row.resource > 9_999 {
+        if !(1..=LAST_RESOURCE).contains(&row.resource) {
             return Err(Fault::in_source(Cause::FieldOutside, n, 1));
         }
-        if row.amount < -3_000_000_000 || row.amount > 3_000_000_000 {
+        if row.amount.unsigned_abs() > MOST_CENTS {
             return Err(Fault::in_source(Cause::AmountBeyond, n, 2));
         }
         Ok((row.resource, row.party, row.amount))
@@ -33,9 +34,9 @@ impl Reader<ListedRow> for Listed {
 }
 
 impl BasisReader<ListedRow> for Listed {
-    ghost basis_by = { λ s n row. 0 };
+    ghost basis_by = { λ _ _ _. 0 };
 
-    fn rest(&self, n: usize, row: &ListedRow) -> u32 {
+    fn rest(&self, _n: usize, _row: &ListedRow) -> u32 {
         0
     }
 }

@@ -23,9 +23,10 @@ impl State {
     fn pass(self, entry: (u16, u8, i64)) -> (u16, u8, i64)
         ensures { result ≡ period_entry self entry }
     {
+        let (resource, party, amount) = entry;
         match self {
-            State::Open => entry,
-            State::Closed => (entry.0, entry.1, 0),
+            State::Open => (resource, party, amount),
+            State::Closed => (resource, party, 0),
         }
     }
 }
@@ -40,15 +41,19 @@ impl<S: LineSource> Period<S> {
     }
 }
 
+// Kept: what the layers pass on alike is one line each; one generic layer would rename a period's field `state`, and ask of each layer
+// the same map and law.
 impl<S: LineSource> LineSource for Period<S> {
     ghost lines = { λ s. period_lines s.state (S.LineSource.lines s.below) };
 
     ghost sound = { λ s. period_sound s.state (S.LineSource.lines s.below) (S.LineSource.sound s.below) };
 
+    #[tactic(auto, using(crate::specs::SourceLaws::length_numbered))]
     fn count(&self) -> usize {
         self.below.count()
     }
 
+    #[tactic(auto, using(crate::specs::SourceLaws::line_at_layered))]
     fn line(&self, n: usize) -> Result<(u16, u8, i64), Fault> {
         let entry = self.below.line(n)?;
         Ok(self.state.pass(entry))

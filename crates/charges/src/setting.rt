@@ -1,6 +1,7 @@
 // Why a setting is refused.
-ghost use Rattle.std.specs.Prelude.{◌≡◌};
 ghost use Rattle.charges.specs.Refusals.{number_of, place_of};
+
+use numbers::numbered::Numbered;
 
 #[derive(Clone, Copy, PartialEq, Eq, Debug)]
 pub enum SettingRefusal {
@@ -10,21 +11,20 @@ pub enum SettingRefusal {
     Full,
 }
 
-impl SettingRefusal {
-    // The refusal's number.
-    pub fn number(&self) -> u8
-        ensures { result ≡ number_of self.now }
-    {
+impl Numbered for SettingRefusal {
+    ghost numbered = { number_of };
+
+    ghost placed = { place_of };
+
+    fn number(&self) -> u8 {
         match self {
             SettingRefusal::Outside => 46,
             SettingRefusal::Full => 45,
         }
     }
 
-    // The offender's place: a setting has none.
-    pub fn place(&self) -> usize
-        ensures { result ≡ place_of self.now }
-    {
+    // A setting has no place.
+    fn place(&self) -> usize {
         match self {
             SettingRefusal::Outside | SettingRefusal::Full => 0,
         }

@@ -1,16 +1,18 @@
 // Up to 32 resources, each with a figure.
 ghost use Rattle.std.specs.Prelude.{◌≡◌, length};
-ghost use Rattle.charges.specs.Table.{Once, Small, Known};
+ghost use Rattle.charges.specs.Table.{Once, Known};
 
 use crate::figure::Figure;
+use crate::limits::PLACES;
 
 pub mod settings;
 
+// Kept: a fixed table, so that a layer allocates nothing.
 #[derive(Drop)]
 pub struct Table {
-    rows: [Figure; 32],
+    // each place holds a figure, or is free
+    rows: [Option<Figure>; PLACES],
     ghost many: { length rows ≡ 32 },
     ghost once: { Once rows },
-    ghost small: { Small rows },
     ghost known: { Known rows },
 }

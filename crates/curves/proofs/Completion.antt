@@ -1,10 +1,10 @@
 -- A sound row completes to a curve's points.
-use Rattle.std.proofs.Common.{◌≡◌, ℕ, zero, suc, ◌+◌, ◌-◌, ◌<◌, Bool, true, false, cond, List, [], ◌∷◌, ◌++◌, length, ℤ, pos, negsuc, ◌-ℤ◌, ◌≤ℤ◌, ◌<ℤ◌, sym, refl, subst, ⊎_elim, append_assoc, append-nil, eq-or-lt_of_le, arith}
+use Rattle.std.proofs.Common.{◌≡◌, ℕ, zero, suc, ◌+◌, ◌-◌, ◌<◌, Bool, true, false, cond, List, [], ◌∷◌, ◌++◌, length, pos, negsuc, ◌-ℤ◌, ◌≤ℤ◌, ◌<ℤ◌, sym, refl, subst, ⊎_elim, append-nil, eq-or-lt_of_le, arith}
 use borrow.Author.Differences.{ints}
 use lib.Signed.{lt_z, ≤ℤ_refl}
 use Rattle.std.specs.Int.{int_min}
 use Rattle.std.proofs.lemmas.Int.{clamps}
-use Rattle.std.proofs.lemmas.List.{length-append, get_or_append_left, get_or_push, length-take-le, get_or-take}
+use Rattle.std.proofs.lemmas.List.{length-append, get_or_append_left, get_or_push}
 use Rattle.curves.specs.declared.points.Point.{Point}
 use Rattle.curves.specs.declared.points.SubmittedCurve.{SubmittedCurve}
 use Rattle.curves.specs.Shape.{at, point, Rising, Inside, InLimits, Shaped}
@@ -63,10 +63,7 @@ first_if : (b : Bool) (p : Point) (ps : List Point) (P : Point → Type 0) → (
 first_if true p ps P f g = f refl
 first_if false p ps P f g = g refl
 
-module _ (row : SubmittedCurve) (sound : Sound row) (len : length row.points ≡ 10) where
-  pub listed_length : length (listed row) ≡ row.count
-  listed_length = length-take-le row.count row.points (omega (arith, sound.count))
-
+module _ (row : SubmittedCurve) (sound : Sound row) (listed_length : length (listed row) ≡ row.count) where
   listed_shaped : Shaped (listed row)
   listed_shaped = record {
     some = omega (arith, listed_length, sound.count);
@@ -121,17 +118,3 @@ module _ (row : SubmittedCurve) (sound : Sound row) (len : length row.points ≡
       (λ t. first_if (lt_z row.lsl (f.power -ℤ pos 1000)) _ (listed row ++ high_end row) (λ p. negsuc 24999 ≤ℤ p.price)
       (λ u. omega (arith, ints, clamps)) (λ u. rw high_first (omega (arith, ints))))
       step_shaped
-
-  -- the ends as the array holds them
-  pub first_same : at row.points 0 ≡ at (listed row) 0
-  first_same = sym (get_or-take row.count row.points 0 (point (pos 0) (pos 0)) (omega (arith, sound.count)))
-
-  pub last_same : at row.points (row.count - 1) ≡ at (listed row) (row.count - 1)
-  last_same = sym (get_or-take row.count row.points (row.count - 1) (point (pos 0) (pos 0)) (omega (arith, sound.count)))
-
-pub four : {X : Type 0} (a b c d l₁ l₂ l₃ l₄ : List X) → l₁ ≡ a → l₂ ≡ l₁ ++ b → l₃ ≡ l₂ ++ c → l₄ ≡ l₃ ++ d → l₄ ≡ a ++ (b ++ (c ++ d))
-four a b c d l₁ l₂ l₃ l₄ e₁ e₂ e₃ e₄ = rw (e₄, e₃, e₂, e₁, append_assoc, append_assoc)
-
--- a point that a test picks, from equal parts
-pub same_if : (x x' y y' u u' v v' : ℤ) → x ≡ x' → y ≡ y' → u ≡ u' → v ≡ v' → cond (lt_z x y) (point u v ∷ []) [] ≡ cond (lt_z x' y') (point u' v' ∷ []) []
-same_if x x' y y' u u' v v' a b c d = rw (a, b, c, d)

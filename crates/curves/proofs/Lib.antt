@@ -1,7 +1,6 @@
 pub mod Lines
 pub mod Readings
-pub mod Held
-pub mod Checks
+pub mod Misfits
 pub mod Soundness
 pub mod Completion
 pub mod Acceptance

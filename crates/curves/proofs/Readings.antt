@@ -4,9 +4,10 @@ use borrow.Author.Differences.{ints}
 use lib.Signed.{lt_z, le_z}
 use Rattle.std.proofs.lemmas.Int.{by_lt_z}
 use Rattle.std.proofs.lemmas.List.{drop_more, drop_all}
+use Rattle.numbers.specs.Checks.{Each, First}
 use Rattle.curves.specs.declared.points.Point.{Point}
-use Rattle.curves.specs.Shape.{at, point, Rising}
-use Rattle.curves.specs.Reading.{line, beyond, reads, Reads}
+use Rattle.curves.specs.Shape.{at, point, Rising, Shaped}
+use Rattle.curves.specs.Reading.{line, beyond, reads, Reads, Pinned, NotAbove}
 use Rattle.curves.proofs.Lines.{line_start, line_nearest, line_only}
 
 -- a test and what it picks
@@ -70,14 +71,18 @@ module _ (ps : List Point) (x : ℤ) (some : 0 < length ps) (rising : Rising ps)
       reads_low a ∙ rw e (sym (line_start (at ps 0) (at ps 1) (rising 0 h).0))
   at_first (suc k) h a b = absurd (omega (arith, only_first (suc k) (omega arith) (omega (arith, ints))))
 
+  pub reads_line : (k : ℕ) → k + 1 < length ps → (at ps k).power ≤ℤ x → x <ℤ (at ps (k + 1)).power → reads ps x ≡ line (at ps k) (at ps (k + 1)) x
+  reads_line k h b c = by_lt_z (at ps 0).power x (λ a. reads_between k h a b c) (λ a. at_first k h a b)
+
+  pub reads_last : (at ps (length ps - 1)).power ≤ℤ x → reads ps x ≡ (at ps (length ps - 1)).price
+  reads_last h = by_lt_z (at ps 0).power x (λ a. reads_high a h)
+      (λ a. let e : length ps - 1 ≡ 0 = only_first (length ps - 1) (omega arith) (omega (arith, ints)) in rw e (reads_low a))
+
   pub reads_is : Reads ps x (reads ps x)
   reads_is = record {
     low = reads_low;
-    high = λ h. by_lt_z (at ps 0).power x (λ a. reads_high a h)
-        (λ a. let e : length ps - 1 ≡ 0 = only_first (length ps - 1) (omega arith) (omega (arith, ints)) in rw e (reads_low a));
-    between = λ k h b c.
-        let e = by_lt_z (at ps 0).power x (λ a. reads_between k h a b c) (λ a. at_first k h a b) in
-        rw e (line_nearest (at ps k) (at ps (k + 1)) x (rising k h).0);
+    high = reads_last;
+    between = λ k h b c. rw (reads_line k h b c) (line_nearest (at ps k) (at ps (k + 1)) x (rising k h).0);
   }
 
   -- where a power above the first point lies: at or past the n-th point, or between two neighbours before it
@@ -104,3 +109,21 @@ module _ (ps : List Point) (x : ℤ) (some : 0 < length ps) (rising : Rising ps)
       line_only (at ps k) (at ps (k + 1)) x s (reads ps x) (rising k h).0 (r.between k h b.2 b.3) (reads_is.between k h b.2 b.3))
       (lies (length ps - 1) a))
       (λ a. r.low a ∙ sym (reads_low a))
+
+-- the three places that the first point above x can have
+module _ (ps : List Point) (x : ℤ) (s : Shaped ps) where
+  pub reads_above : (k : ℕ) → First (NotAbove ps x) (length ps) k → (k ≡ 0 → ⊥) → reads ps x ≡ line (at ps (k - 1)) (at ps k) x
+  reads_above k f some =
+      let e : k - 1 + 1 ≡ k = omega arith in
+      let above : x <ℤ (at ps k).power = above_x f.1 in
+      rw e at (reads_line ps x s.some s.rising (k - 1) (omega (arith, f.0)) (f.2 (k - 1) (omega arith)) (rw e above))
+    where
+      above_x : {y : ℤ} → (y ≤ℤ x → ⊥) → x <ℤ y
+      above_x {y} h = by_lt_z x y (λ lt. lt) (λ le. absurd (h le))
+
+  pub reads_past : Each (NotAbove ps x) (length ps) → reads ps x ≡ (at ps (length ps - 1)).price
+  reads_past h = reads_last ps x s.some s.rising (h (length ps - 1) (omega (arith, s.some)))
+
+  -- a reading by definition is one in words, and the only one
+  pub in_words : (r : ℤ) → r ≡ reads ps x → Reads ps x r × Pinned ps x r
+  in_words r e = (rw e (reads_is ps x s.some s.rising), λ t w. reads_only ps x s.some s.rising t w ∙ sym e)

@@ -10,10 +10,13 @@ use Rattle.curves.specs.Submission.{listed}
 abbrev pub low_end : SubmittedCurve → List Point
 low_end row = let first = at (listed row) 0 in cond (int_lt row.lsl first.power) (point row.lsl (negsuc 24999) ∷ []) []
 
--- 1,000 kW below the first power, if that is above LSL, at the lesser of −24,999 and the first price
+-- 1,000 kW below the first power, at the lesser of −24,999 and the first price
+abbrev pub step_point : SubmittedCurve → Point
+step_point row = let first = at (listed row) 0 in point (first.power -ℤ pos 1000) (int_min (negsuc 24998) first.price)
+
+-- that point, if it is above LSL
 abbrev pub step_up : SubmittedCurve → List Point
-step_up row = let first = at (listed row) 0 in
-    cond (int_lt row.lsl (first.power -ℤ pos 1000)) (point (first.power -ℤ pos 1000) (int_min (negsuc 24998) first.price) ∷ []) []
+step_up row = cond (int_lt row.lsl (step_point row).power) (step_point row ∷ []) []
 
 -- HSL at the last price, if HSL is above the last power
 abbrev pub high_end : SubmittedCurve → List Point

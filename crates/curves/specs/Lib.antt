@@ -1,5 +1,6 @@
 pub mod Shape
 pub mod Submission
+pub mod Misfits
 pub mod Completion
 pub mod Acceptance
 pub mod Reading

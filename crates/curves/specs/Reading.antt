@@ -1,6 +1,7 @@
 -- What a curve reads at a power, over the list of its points.
-use Rattle.std.specs.Prelude.{◌≡◌, ℕ, ◌+◌, ◌-◌, ◌<◌, cond, List, [], ◌∷◌, length, ℤ, pos, ◌+ℤ◌, ◌-ℤ◌, ◌*ℤ◌, ◌≤ℤ◌, ◌<ℤ◌, int_le, int_lt, unsigned_abs}
+use Rattle.std.specs.Prelude.{◌≡◌, ℕ, ◌+◌, ◌-◌, ◌<◌, cond, List, [], ◌∷◌, length, ℤ, pos, ◌+ℤ◌, ◌-ℤ◌, ◌*ℤ◌, ◌≤ℤ◌, ◌<ℤ◌, int_le, int_lt, unsigned_abs, Option, MatchOption}
 use Rattle.std.specs.Int.{int_min}
+use Rattle.numbers.specs.Checks.{Each, First}
 use Rattle.rounding.specs.Nearest.{nearest_to, Nearest}
 use Rattle.curves.specs.declared.points.Point.{Point}
 use Rattle.curves.specs.Shape.{at}
@@ -37,6 +38,14 @@ pub record Reads (ps : List Point) (x r : ℤ) : Type 0 where
 -- the words name one number
 abbrev pub Pinned : List Point → ℤ → ℤ → Type 0
 Pinned ps x r = (s : ℤ) → Reads ps x s → s ≡ r
+
+-- the power of the point after the first k is not above x
+abbrev pub NotAbove : List Point → ℤ → ℕ → Type 0
+NotAbove ps x k = (at ps k).power ≤ℤ x
+
+-- the place of the first point whose power is above x, or that there is none
+abbrev pub FirstAbove : List Point → ℤ → Option ℕ → Type 0
+FirstAbove ps x found = MatchOption found (Each (NotAbove ps x) (length ps)) (First (NotAbove ps x) (length ps))
 
 -- what a base point is priced at: the lesser of its reading and the cap
 unfoldable pub price_at : List Point → ℤ → ℤ → ℤ

@@ -35,14 +35,25 @@ GoodCount row = (1 ≤ row.count) × (row.count ≤ 10)
 abbrev pub GoodLimits : SubmittedCurve → Type 0
 GoodLimits row = PowerIn row.lsl × PowerIn row.hsl × (row.lsl ≤ℤ row.hsl)
 
+-- 21: how many points there are
+abbrev pub count_check : SubmittedCurve → Check
+count_check row = whole 21 (GoodCount row)
+
+-- 22: each power
+abbrev pub power_check : SubmittedCurve → Check
+power_check row = each 22 row.count (GoodPower (listed row))
+
+-- 23: each price
+abbrev pub price_check : SubmittedCurve → Check
+price_check row = each 23 row.count (GoodPrice (listed row))
+
+-- 24: the limits
+abbrev pub limit_check : SubmittedCurve → Check
+limit_check row = whole 24 (GoodLimits row)
+
 -- the checks of a row, in order
 abbrev pub checks : SubmittedCurve → List Check
-checks row =
-    whole 21 (GoodCount row)
-    ∷ each 22 row.count (GoodPower (listed row))
-    ∷ each 23 row.count (GoodPrice (listed row))
-    ∷ whole 24 (GoodLimits row)
-    ∷ []
+checks row = count_check row ∷ power_check row ∷ price_check row ∷ limit_check row ∷ []
 
 -- the number of a refusal
 abbrev pub number_of : CurveRefusal → ℕ

@@ -1,8 +1,10 @@
 // A completed offer curve, whose points are always in order.
-ghost use Rattle.std.specs.Prelude.{ℕ, ◌+◌, ◌<◌, ◌≤◌, take};
+ghost use Rattle.std.specs.Prelude.{◌<◌, length};
+ghost use Rattle.bounded.specs.Items.{items_of};
 ghost use Rattle.curves.specs.Shape.{Rising, Inside};
 
 use crate::points::Point;
+use bounded::list::BoundedList;
 
 pub mod checks;
 pub mod completion;
@@ -10,10 +12,8 @@ pub mod reading;
 
 #[derive(Clone, Copy)]
 pub struct Curve {
-    points: [Point; 13],
-    count: usize,
-    ghost some: { 0 < count },
-    ghost few: { count ≤ 13 },
-    ghost rising: { Rising (take count points) },
-    ghost inside: { Inside (take count points) },
+    points: BoundedList<Point, 13>,
+    ghost some: { 0 < length (items_of points) },
+    ghost rising: { Rising (items_of points) },
+    ghost inside: { Inside (items_of points) },
 }

@@ -1,6 +1,6 @@
 // Submitted curves by resource and hour.
-ghost use Rattle.std.specs.Prelude.{◌≡◌, ℕ};
-ghost use Rattle.numbers.specs.Checks.{OneAnswer};
+ghost use Rattle.std.specs.Prelude.{ℕ};
+ghost use Rattle.numbers.specs.Checks.{Unambiguous};
 ghost use Rattle.directory.specs.Refusals.{checks, Opened};
 ghost use Rattle.curves.specs.Keys.{keyed, curve_kind};
 
@@ -9,20 +9,11 @@ use directory::keyed::Keyed;
 use directory::lookup::{Directory, DirectoryRefusal};
 use std::cmp::Ordering;
 
-// What a submitted curve is found by.
-#[derive(Clone, Copy)]
+// What a submitted curve is found by: the resource, and then the hour.
+#[derive(Clone, Copy, PartialEq, Eq, PartialOrd, Ord)]
 pub struct CurveKey {
     pub resource: u16,
     pub hour: u8,
-}
-
-impl CurveKey {
-    // The resource, and then the hour.
-    fn parts(&self) -> (u16, u8)
-        ensures { result ≡ keyed self.now }
-    {
-        (self.resource, self.hour)
-    }
 }
 
 impl Keyed for SubmittedCurve {
@@ -42,11 +33,11 @@ impl Keyed for SubmittedCurve {
     }
 
     fn compare(left: &CurveKey, right: &CurveKey) -> Ordering {
-        left.parts().cmp(&right.parts())
+        left.cmp(right)
     }
 
     fn is_formed(&self) -> bool {
-        self.resource >= 1 && self.resource <= 9_999 && self.hour >= 1 && self.hour <= 25
+        (1..=9_999).contains(&self.resource) && (1..=25).contains(&self.hour)
     }
 
     fn most() -> usize {
@@ -59,7 +50,7 @@ pub fn submitted_curves<'a>(
     rows: &'a [SubmittedCurve],
 ) -> Result<Directory<'a, SubmittedCurve>, DirectoryRefusal>
     ensures answer { Opened curve_kind rows.now (λ d. d.records.now) result }
-    ensures once { (number place : ℕ) → OneAnswer (checks curve_kind rows.now) number place }
+    ensures once { Unambiguous (checks curve_kind rows.now) }
 {
     Directory::of(rows)
 }

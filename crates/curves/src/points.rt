@@ -1,6 +1,8 @@
 // A point of an offer curve, and a curve as it is submitted.
-ghost use Rattle.std.specs.Prelude.{◌≡◌};
+ghost use Rattle.std.specs.Prelude.{◌≡◌, length, min};
 ghost use Rattle.curves.specs.Submission.{listed, number_of, place_of};
+
+use numbers::numbered::Numbered;
 
 #[derive(Clone, Copy)]
 pub struct Point {
@@ -10,7 +12,8 @@ pub struct Point {
     pub price: i32,
 }
 
-// A submitted curve: a plain row, of which nothing is promised.
+// A submitted curve.
+// Kept: a plain row as it is handed in, of which nothing is promised; its count may exceed the room.
 #[derive(Clone, Copy)]
 pub struct SubmittedCurve {
     pub resource: u16,
@@ -25,9 +28,10 @@ pub struct SubmittedCurve {
 impl SubmittedCurve {
     // The points that were submitted, as far as there is room.
     pub fn listed(&self) -> &[Point]
-        ensures { result.now ≡ listed self.now }
+        ensures value { result.now ≡ listed self.now }
+        ensures many { length result.now ≡ min self.now.count 10 }
     {
-        &self.points[0..self.count.min(10)]
+        &self.points[..self.count.min(10)]
     }
 }
 
@@ -40,11 +44,12 @@ pub enum CurveRefusal {
     Limits,
 }
 
-impl CurveRefusal {
-    // The refusal's number.
-    pub fn number(&self) -> u8
-        ensures { result ≡ number_of self.now }
-    {
+impl Numbered for CurveRefusal {
+    ghost numbered = { number_of };
+
+    ghost placed = { place_of };
+
+    fn number(&self) -> u8 {
         match self {
             CurveRefusal::Count => 21,
             CurveRefusal::Power(_) => 22,
@@ -53,10 +58,7 @@ impl CurveRefusal {
         }
     }
 
-    // The place of the first offender, from 1; 0 for the curve as a whole.
-    pub fn place(&self) -> usize
-        ensures { result ≡ place_of self.now }
-    {
+    fn place(&self) -> usize {
         match self {
             CurveRefusal::Power(place) | CurveRefusal::Price(place) => *place,
             CurveRefusal::Count | CurveRefusal::Limits => 0,

@@ -1,36 +1,63 @@
 // Readings as the library's types hold them. What a type cannot hold becomes its end value, which lies outside every
 // limit, so that the library refuses it by number and place.
-ghost use Rattle.std.specs.Prelude.{◌≡◌, min, pos, negsuc};
+ghost use Rattle.std.specs.Prelude.{◌≡◌, min};
 ghost use Rattle.day.specs.Held.{held_signed, held_natural};
 
-// A signed number of 32 bits; beyond them the nearer end.
-pub fn as_i32(x: i64) -> i32
-    ensures { result ≡ held_signed x }
-{
-    x.clamp(-2_147_483_648, 2_147_483_647) as i32
+use text::numbers::Number;
+
+// A type of the library that holds a reading.
+pub trait Held: Sized {
+    // What the reading is read as.
+    type Reading: Number;
+
+    // The value that stands for a reading.
+    ghost held: { Self.Reading → Self };
+
+    fn held(reading: Self::Reading) -> Self
+        ensures { result ≡ held reading };
 }
 
+// A signed number of 32 bits; beyond them the nearer end.
+impl Held for i32 {
+    type Reading = i64;
+
+    ghost held = { held_signed };
+
+    fn held(reading: i64) -> i32 {
+        i32::try_from(reading).unwrap_or(if reading < 0 { i32::MIN } else { i32::MAX })
+    }
+}
+
+// Kept: what each type below holds is one call of the library, and a function for them all would be as long as the call.
 // A number of 32 bits without a sign; any other becomes the largest.
-pub fn as_u32(x: i64) -> u32
-    ensures { result ≡ held_natural x }
-{
-    if x < 0 || x > 4_294_967_295 {
-        4_294_967_295
-    } else {
-        x as u32
+impl Held for u32 {
+    type Reading = i64;
+
+    ghost held = { held_natural };
+
+    fn held(reading: i64) -> u32 {
+        u32::try_from(reading).unwrap_or(u32::MAX)
     }
 }
 
 // A number of 16 bits; a larger one becomes the largest.
-pub fn as_u16(x: u32) -> u16
-    ensures { result ≡ min x 65535 }
-{
-    x.min(65_535) as u16
+impl Held for u16 {
+    type Reading = u32;
+
+    ghost held = { λ reading. min reading 65535 };
+
+    fn held(reading: u32) -> u16 {
+        u16::try_from(reading).unwrap_or(u16::MAX)
+    }
 }
 
 // A number of 8 bits; a larger one becomes the largest.
-pub fn as_u8(x: u32) -> u8
-    ensures { result ≡ min x 255 }
-{
-    x.min(255) as u8
+impl Held for u8 {
+    type Reading = u32;
+
+    ghost held = { λ reading. min reading 255 };
+
+    fn held(reading: u32) -> u8 {
+        u8::try_from(reading).unwrap_or(u8::MAX)
+    }
 }

@@ -10,3 +10,5 @@ pub mod report;
 pub mod roll;
 pub mod sample;
 pub mod steps;
+#[cfg(test)]
+mod tests;

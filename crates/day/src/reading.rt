@@ -1,148 +1,194 @@
 // Reads one record. Nothing of the day is altered here: a record is read whole first.
-ghost use Rattle.std.specs.Prelude.{◌≡◌, ◌+◌, true, length, is_some, is_ok};
-ghost use Rattle.text.specs.Fields.{left};
-ghost use Rattle.day.specs.Counts.{field_count, ReadCount};
+ghost use Rattle.std.specs.Prelude.{◌≡◌, ◌+◌, ◌≤◌, IfOk};
+ghost use Rattle.text.specs.declared.fields.Fault.TheVariants.{Malformed};
+ghost use Rattle.day.specs.Counts.{field_count, name_of, Reads, ReadCount, ToldWithin};
 
-use crate::held::{as_i32, as_u8, as_u16, as_u32};
-use crate::names::{Name, field_count};
+use crate::held::Held;
+use crate::names::Name;
 use crate::records::Record;
 use crate::roll::Roll;
 use curves::points::{Point, SubmittedCurve};
 use emergency::row::EmergencyRow;
 use std::alloc::Global;
 use text::fields::{Fault, Fields};
-use text::numbers::number_in;
-
-// What was read, or the end of the reading at the field at fault.
-macro_rules! field {
-    ($got:expr, $field:expr) => {
-        match $got {
-            Some(x) => x,
-            None => return Err(Fault::Malformed($field)),
-        }
-    };
-}
-
-// A party's number: by its code, which is enrolled above, or as # and the number.
-fn party(fields: &mut Fields<'_>, parties: &Roll) -> Option<u32>
-    ensures { is_some result ≡ true → length (left fields.old.rest.now) ≡ 1 + length (left fields.new.rest.now) }
-{
-    match fields.text()? {
-        [b'#', digits @ ..] => number_in::<u32>(digits),
-        code => parties.find(code),
-    }
-}
-
-fn read_party(heap: Global, fields: &mut Fields<'_>) -> Result<Vec<u8>, Fault>
-    ensures { is_ok result ≡ true → length (left fields.old.rest.now) ≡ 1 + length (left fields.new.rest.now) }
-{
-    let code = field!(fields.text(), 1);
-    Ok(Vec::from_slice(heap, code)?)
-}
+use text::numbers::{Number, number_in};
 
 // The submitted points, as far as there is room.
 fn points_of(numbers: &[i64]) -> [Point; 10] {
     let mut points = [Point { power: 0, price: 0 }; 10];
-    for at in 0..10 {
-        if 2 * at + 1 < numbers.len() {
-            points[at] = Point {
-                power: as_i32(numbers[2 * at]),
-                price: as_i32(numbers[2 * at + 1]),
-            };
-        }
+    for (point, pair) in points.iter_mut().zip(numbers.chunks_exact(2)) {
+        *point = Point {
+            power: i32::held(pair[0]),
+            price: i32::held(pair[1]),
+        };
     }
     points
-}
-
-fn read_curve(heap: Global, fields: &mut Fields<'_>) -> Result<SubmittedCurve, Fault>
-    ensures { is_ok result ≡ true → length (left fields.old.rest.now) ≡ 5 + length (left fields.new.rest.now) }
-{
-    let resource: u32 = field!(fields.number::<u32>(), 1);
-    let hour: u32 = field!(fields.number::<u32>(), 2);
-    let lsl: i64 = field!(fields.number::<i64>(), 3);
-    let hsl: i64 = field!(fields.number::<i64>(), 4);
-    let mut numbers: Vec<i64> = Vec::new(heap);
-    fields.list::<i64>(5, &mut numbers)?;
-    if numbers.len() % 2 != 0 {
-        return Err(Fault::Malformed(5));
-    }
-    Ok(SubmittedCurve {
-        resource: as_u16(resource),
-        hour: as_u8(hour),
-        lsl: as_i32(lsl),
-        hsl: as_i32(hsl),
-        count: numbers.len() / 2,
-        points: points_of(numbers.as_slice()),
-    })
-}
-
-fn read_quarter(heap: Global, fields: &mut Fields<'_>) -> Result<Vec<u16>, Fault>
-    ensures { is_ok result ≡ true → length (left fields.old.rest.now) ≡ 1 + length (left fields.new.rest.now) }
-{
-    let mut numbers: Vec<u32> = Vec::new(heap);
-    fields.list::<u32>(1, &mut numbers)?;
-    let mut seconds = Vec::with_capacity(heap, numbers.len())?;
-    for n in numbers.iter() {
-        seconds.push(as_u16(*n))?;
-    }
-    Ok(seconds)
 }
 
 // The base points, one for each slice, as far as there is room.
 fn bases_of(numbers: &[i64]) -> [i32; 15] {
     let mut bases = [0; 15];
-    for i in 0..numbers.len().min(15) {
-        bases[i] = as_i32(numbers[i]);
+    for (base, number) in bases.iter_mut().zip(numbers) {
+        *base = i32::held(*number);
     }
     bases
 }
 
-fn read_emergency(
+// The fields behind a record's name, read one after another, with the number of the one that was read last: what is
+// wrong there is told by it.
+#[derive(Drop)]
+struct RecordReader<'t, 'd> {
+    fields: Fields<'t>,
+    at: u32,
     heap: Global,
-    fields: &mut Fields<'_>,
-    parties: &Roll,
+    parties: &'d Roll,
     slices: usize,
-) -> Result<EmergencyRow, Fault>
-    ensures { is_ok result ≡ true → length (left fields.old.rest.now) ≡ 8 + length (left fields.new.rest.now) }
-{
-    let party = field!(party(fields, parties), 1);
-    let resource: u32 = field!(fields.number::<u32>(), 2);
-    let spp: i64 = field!(fields.number::<i64>(), 3);
-    let generation: i64 = field!(fields.number::<i64>(), 4);
-    let charging: i64 = field!(fields.number::<i64>(), 5);
-    let mut bases: Vec<i64> = Vec::with_capacity(heap, slices)?;
-    fields.list::<i64>(6, &mut bases)?;
-    if bases.len() != slices {
-        return Err(Fault::Malformed(6));
-    }
-    let hour: u32 = field!(fields.number::<u32>(), 7);
-    let cap: i64 = field!(fields.number::<i64>(), 8);
-    Ok(EmergencyRow {
-        resource: as_u16(resource),
-        party: as_u8(party),
-        spp: as_i32(spp),
-        generation: as_u32(generation),
-        charging: as_i32(charging),
-        bases: bases_of(bases.as_slice()),
-        hour: as_u8(hour),
-        cap: as_i32(cap),
-    })
 }
 
-fn read_named(
-    heap: Global,
-    name: Name,
-    fields: &mut Fields<'_>,
-    parties: &Roll,
-    slices: usize,
-) -> Result<Record, Fault>
-    ensures { is_ok result ≡ true → length (left fields.old.rest.now) ≡ field_count name + length (left fields.new.rest.now) }
-{
-    match name {
-        Name::Party => Ok(Record::Party(read_party(heap, fields)?)),
-        Name::Curve => Ok(Record::Curve(read_curve(heap, fields)?)),
-        Name::Quarter => Ok(Record::Quarter(read_quarter(heap, fields)?)),
-        Name::Emergency => Ok(Record::Emergency(read_emergency(heap, fields, parties, slices)?)),
+impl<'t> RecordReader<'t, '_> {
+    // The fault of the field that was read last.
+    fn wrong(&self) -> Fault
+        ensures { result ≡ Malformed self.now.at }
+    {
+        Fault::Malformed(self.at)
+    }
+
+    // Goes on to the next field.
+    // Kept: the fields are of several types, so that no loop counts them.
+    fn step(&mut self)
+        ensures next { self.new.at ≤ self.old.at + 1 }
+        ensures fields { self.new.fields ≡ self.old.fields }
+    {
+        self.at = self.at.saturating_add(1);
+    }
+
+    fn text(&mut self) -> Result<&'t [u8], Fault>
+        ensures { Reads 1 self.old self.new result }
+    {
+        self.step();
+        self.fields.text().ok_or(self.wrong())
+    }
+
+    fn number<T: Number>(&mut self) -> Result<T, Fault>
+        ensures { Reads 1 self.old self.new result }
+    {
+        self.step();
+        self.fields.number().ok_or(self.wrong())
+    }
+
+    // A number as the library holds it.
+    fn held<T: Held>(&mut self) -> Result<T, Fault>
+        ensures { Reads 1 self.old self.new result }
+    {
+        let reading = self.number::<T::Reading>()?;
+        Ok(T::held(reading))
+    }
+
+    fn list<T: Number>(&mut self) -> Result<Vec<T>, Fault>
+        ensures { Reads 1 self.old self.new result }
+    {
+        self.step();
+        let mut numbers = Vec::new(self.heap);
+        self.fields.list(self.at, &mut numbers)?;
+        Ok(numbers)
+    }
+
+    // A party's number: by its code, which is enrolled above, or as # and the number.
+    fn party(&mut self) -> Result<u8, Fault>
+        ensures { Reads 1 self.old self.new result }
+    {
+        let number = match self.text()? {
+            [b'#', digits @ ..] => number_in(digits),
+            code => self.parties.find(code),
+        };
+        Ok(u8::held(number.ok_or(self.wrong())?))
+    }
+
+    // The submitted points, and how many.
+    // Kept: a submitted curve is a row of fixed size, whose count is told also where there is no room for the points.
+    fn points(&mut self) -> Result<(usize, [Point; 10]), Fault>
+        ensures { Reads 1 self.old self.new result }
+    {
+        let numbers = self.list::<i64>()?;
+        if numbers.len() % 2 != 0 {
+            return Err(self.wrong());
+        }
+        Ok((numbers.len() / 2, points_of(numbers.as_slice())))
+    }
+
+    // As many base points as there are slices.
+    fn bases(&mut self) -> Result<[i32; 15], Fault>
+        ensures { Reads 1 self.old self.new result }
+    {
+        let numbers = self.list::<i64>()?;
+        if numbers.len() != self.slices {
+            return Err(self.wrong());
+        }
+        Ok(bases_of(numbers.as_slice()))
+    }
+
+    fn party_code(&mut self) -> Result<Vec<u8>, Fault>
+        ensures { Reads 1 self.old self.new result }
+    {
+        let code = self.text()?;
+        Ok(Vec::from_slice(self.heap, code)?)
+    }
+
+    fn curve(&mut self) -> Result<SubmittedCurve, Fault>
+        ensures { Reads 5 self.old self.new result }
+    {
+        let resource = self.held()?;
+        let hour = self.held()?;
+        let lsl = self.held()?;
+        let hsl = self.held()?;
+        let (count, points) = self.points()?;
+        Ok(SubmittedCurve {
+            resource,
+            hour,
+            lsl,
+            hsl,
+            count,
+            points,
+        })
+    }
+
+    fn quarter(&mut self) -> Result<Vec<u16>, Fault>
+        ensures { Reads 1 self.old self.new result }
+    {
+        let numbers = self.list::<u32>()?;
+        Ok(
+            numbers
+                .iter()
+                .map(|number| u16::held(*number))
+                .collect(self.heap)?,
+        )
+    }
+
+    fn emergency(&mut self) -> Result<EmergencyRow, Fault>
+        ensures { Reads 8 self.old self.new result }
+    {
+        Ok(EmergencyRow {
+            party: self.party()?,
+            resource: self.held()?,
+            spp: self.held()?,
+            generation: self.held()?,
+            charging: self.held()?,
+            bases: self.bases()?,
+            hour: self.held()?,
+            cap: self.held()?,
+        })
+    }
+
+    fn record(&mut self, name: Name) -> Result<Record, Fault>
+        ensures fields { Reads (field_count name) self.old self.new result }
+        ensures named { IfOk result (λ r. name_of r ≡ name) }
+    {
+        Ok(match name {
+            Name::Party => Record::Party(self.party_code()?),
+            Name::Curve => Record::Curve(self.curve()?),
+            Name::Quarter => Record::Quarter(self.quarter()?),
+            Name::Emergency => Record::Emergency(self.emergency()?),
+        })
     }
 }
 
@@ -154,11 +200,19 @@ pub fn read(
     parties: &Roll,
     slices: usize,
 ) -> Result<Record, Fault>
-    ensures { ReadCount name fields.entry.rest.now result }
+    ensures count { ReadCount name fields.entry.rest.now result }
+    ensures told { ToldWithin name result }
+    ensures named { IfOk result (λ r. name_of r ≡ name) }
 {
-    if fields.count() != field_count(name) {
+    if fields.count() != name.field_count() {
         return Err(Fault::Malformed(0));
     }
-    let mut rest = fields;
-    read_named(heap, name, &mut rest, parties, slices)
+    RecordReader {
+        fields,
+        at: 0,
+        heap,
+        parties,
+        slices,
+    }
+    .record(name)
 }

@@ -1,5 +1,8 @@
 // The report on a day: what is refused or malformed, and each emergency row priced step by step.
-use crate::day::{Day, Outcome, Reading};
+ghost use Rattle.std.specs.Iterator.{YieldsFirstRef, item_count};
+ghost use Rattle.text.specs.Lines.{lines_of};
+
+use crate::day::{Day, Reading, RecordFault};
 use crate::roll::Roll;
 use crate::steps;
 use curves::keys::{CurveKey, submitted_curves};
@@ -7,56 +10,80 @@ use curves::points::SubmittedCurve;
 use directory::lookup::{Directory, DirectoryRefusal};
 use directory::parties::parties;
 use emergency::row::RowFault;
+use numbers::numbered::Numbered;
 use std::alloc::{AllocError, Global};
+use std::fmt;
 use text::answers::Answers;
 use text::fields::Fields;
 use text::lines::{is_passed_over, next_line};
 
 // How many records were done, refused and malformed.
-#[derive(Clone, Copy, PartialEq, Eq, Debug)]
+#[derive(Clone, Copy, PartialEq, Eq, Debug, Default)]
 pub struct Tally {
     pub done: u64,
     pub refused: u64,
     pub malformed: u64,
 }
 
-// A line number and the name of the record there.
-fn tell_record(out: &mut Answers, line: u64, text: &[u8]) -> Result<(), AllocError> {
-    let (name, _) = Fields::of(text);
-    out.number(line)?;
-    out.put(b": ")?;
-    out.put(name)
+impl fmt::Display for Tally {
+    fn fmt<W: fmt::Write>(&self, f: &mut fmt::Formatter<W>) -> fmt::Result {
+        let Tally {
+            done,
+            refused,
+            malformed,
+        } = self;
+        write!(f, "{done} done, {refused} refused, {malformed} malformed")
+    }
 }
 
-fn tell_outcome(
-    out: &mut Answers,
-    tally: &mut Tally,
-    line: u64,
-    text: &[u8],
-    outcome: Outcome,
-) -> Result<(), AllocError> {
-    match outcome {
-        Outcome::Done => {
-            tally.done = tally.done.saturating_add(1);
-            Ok(())
-        }
-        Outcome::Refused(number, place) => {
-            tally.refused = tally.refused.saturating_add(1);
-            tell_record(out, line, text)?;
-            out.put(b": refused ")?;
-            out.number(number as u64)?;
-            out.put(b" at ")?;
-            out.number(place as u64)?;
-            out.put(b"\n")
-        }
-        Outcome::Malformed(field) => {
-            tally.malformed = tally.malformed.saturating_add(1);
-            tell_record(out, line, text)?;
-            out.put(b": malformed at field ")?;
-            out.number(field as u64)?;
-            out.put(b"\n")
-        }
+impl Tally {
+    // Counts a record by how it ended.
+    fn count(&mut self, outcome: Result<(), RecordFault>) {
+        let count = match outcome {
+            Ok(()) => &mut self.done,
+            Err(RecordFault::Refused(_)) => &mut self.refused,
+            Err(RecordFault::Malformed(_)) => &mut self.malformed,
+            Err(RecordFault::Memory) => return,
+        };
+        *count = count.saturating_add(1);
     }
+}
+
+// The lines of a text.
+#[derive(Drop)]
+struct Lines<'t> {
+    left: &'t [u8],
+}
+
+impl<'t> Iterator for Lines<'t> {
+    type Item = &'t [u8];
+
+    ghost next_gives = { YieldsFirstRef (λ lines. lines_of lines.left.now) };
+
+    ghost remaining = { item_count (λ lines. lines_of lines.left.now) };
+
+    fn next(&mut self) -> Option<&'t [u8]> {
+        if self.left.is_empty() {
+            return None;
+        }
+        let (line, left) = next_line(self.left);
+        self.left = left;
+        Some(line)
+    }
+}
+
+// A record that was not done, by its line and name, and why.
+fn tell_fault(
+    out: &mut Answers,
+    line: u64,
+    record: &[u8],
+    fault: RecordFault,
+) -> Result<(), AllocError> {
+    let (name, _) = Fields::of(record);
+    write!(out, "{line}: ")?;
+    // Kept: a name is any bytes, and a format takes text only.
+    out.put(name)?;
+    writeln!(out, ": {fault}")
 }
 
 // Does the records of a text, one line after another.
@@ -66,21 +93,16 @@ pub fn do_records(
     out: &mut Answers,
     text: &[u8],
 ) -> Result<Tally, AllocError> {
-    let mut tally = Tally {
-        done: 0,
-        refused: 0,
-        malformed: 0,
-    };
-    let mut line = 0u64;
-    let mut left = text;
-    while left.len() > 0 {
-        let (record, rest) = next_line(left);
-        line = line.saturating_add(1);
-        if !is_passed_over(record) {
-            let outcome = day.step(heap, line, record)?;
-            tell_outcome(out, &mut tally, line, record, outcome)?;
+    let mut tally = Tally::default();
+    let lines = (1u64..).zip(Lines { left: text });
+    for (line, record) in lines.filter(|(_, text)| !is_passed_over(text)) {
+        let outcome = day.step(heap, line, record);
+        match outcome {
+            Ok(()) => {}
+            Err(RecordFault::Memory) => return Err(AllocError),
+            Err(fault) => tell_fault(out, line, record, fault)?,
         }
-        left = rest;
+        tally.count(outcome);
     }
     Ok(tally)
 }
@@ -88,35 +110,27 @@ pub fn do_records(
 // Why a directory is not made.
 fn tell_refused_directory(
     out: &mut Answers,
-    of: &[u8],
+    of: &str,
     refusal: DirectoryRefusal,
 ) -> Result<(), AllocError> {
-    out.put(b"the directory of ")?;
-    out.put(of)?;
-    out.put(b" is refused: ")?;
-    out.number(refusal.number() as u64)?;
-    out.put(b" at record ")?;
-    out.number(refusal.place() as u64)?;
-    out.put(b"\n")
+    writeln!(
+        out,
+        "the directory of {of} is refused: {} at record {}",
+        refusal.number(),
+        refusal.place()
+    )
 }
 
 // A row by its line, resource, party and hour.
 fn tell_reading(out: &mut Answers, parties: &Roll, reading: &Reading) -> Result<(), AllocError> {
-    out.put(b"line ")?;
-    out.number(reading.line)?;
-    out.put(b": resource ")?;
-    out.number(reading.row.resource as u64)?;
-    out.put(b" of ")?;
-    match parties.code(reading.row.party as usize) {
+    let Reading { line, row, .. } = reading;
+    write!(out, "line {line}: resource {} of ", row.resource)?;
+    match parties.code(usize::from(row.party)) {
+        // Kept: a code is any bytes, and a format takes text only.
         Some(code) => out.put(code)?,
-        None => {
-            out.put(b"#")?;
-            out.number(reading.row.party as u64)?;
-        }
+        None => write!(out, "#{}", row.party)?,
     }
-    out.put(b" in hour ")?;
-    out.number(reading.row.hour as u64)?;
-    out.put(b"\n")
+    writeln!(out, " in hour {}", row.hour)
 }
 
 // The submitted curve of a row's resource and hour.
@@ -162,7 +176,7 @@ fn price_readings(
     day: &Day,
     curves: &Directory<'_, SubmittedCurve>,
 ) -> Result<(), AllocError> {
-    for reading in day.readings.iter() {
+    for reading in &day.readings {
         tell_reading(out, &day.parties, reading)?;
         match submitted_for(curves, reading) {
             Some(submitted) => price_on(out, reading, submitted)?,
@@ -176,22 +190,17 @@ fn price_readings(
 pub fn price(heap: Global, day: &Day, out: &mut Answers) -> Result<(), AllocError> {
     let codes = day.parties.codes(heap)?;
     if let Err(refusal) = parties(codes.as_slice()) {
-        return tell_refused_directory(out, b"parties", refusal);
+        return tell_refused_directory(out, "parties", refusal);
     }
     match submitted_curves(day.curves.as_slice()) {
         Ok(curves) => price_readings(out, day, &curves),
-        Err(refusal) => tell_refused_directory(out, b"curves", refusal),
+        Err(refusal) => tell_refused_directory(out, "curves", refusal),
     }
 }
 
 // The last line: how many records were done, refused and malformed.
 pub fn tell_tally(out: &mut Answers, tally: Tally) -> Result<(), AllocError> {
-    out.number(tally.done)?;
-    out.put(b" done, ")?;
-    out.number(tally.refused)?;
-    out.put(b" refused, ")?;
-    out.number(tally.malformed)?;
-    out.put(b" malformed\n")
+    writeln!(out, "{tally}")
 }
 
 // The whole report on a text.

@@ -3,9 +3,9 @@ ghost use Rattle.std.specs.Prelude.{◌≡◌, ℕ, ◌≤◌, pos, negsuc, Ok};
 ghost use Rattle.book.specs.Books.{FitsIn};
 ghost use Rattle.desk.specs.Thirds.{thirds_by};
 
+use crate::tables::{USED_ENTRY, USED_SLOT};
 use assess::refusals::Refusal;
 use book::ledger::Book;
-use book::rows::{Entry, Slot};
 use charges::listed::{Listed, ListedRow};
 use charges::rowsource::RowSource;
 use sharing::leftover::Leftover;
@@ -37,30 +37,28 @@ pub fn thirds<R: SharingRule>(
     Ok((one, two, three))
 }
 
+// The same over tables of the function's own, which held other things before.
+fn thirds_afresh<R: SharingRule>(load: u32, rule: &R) -> Result<(i128, i128, i128), Refusal>
+    ensures { 1 ≤ load → load ≤ 20000000 → result ≡ Ok (thirds_by (R.SharingRule.meaning rule.now) load) }
+{
+    let mut slots = [USED_SLOT; 3];
+    let mut entries = [USED_ENTRY; 9];
+    let mut book = Book::over(&mut slots, &mut entries);
+    thirds(&mut book, load, rule)
+}
+
 // By running: -67, 33, 34.
+#[tactic(auto, using(crate::proofs::Shares::thirds_running))]
 pub fn thirds_running(load: u32) -> Result<(i128, i128, i128), Refusal>
     ensures { 1 ≤ load → load ≤ 20000000 → result ≡ Ok (negsuc 66, pos 33, pos 34) }
 {
-    let mut slots = [Slot { stands: true }; 3];
-    let mut entries = [Entry {
-        load: 9,
-        paid: 9,
-        charged: 9,
-    }; 9];
-    let mut book = Book::over(&mut slots, &mut entries);
-    thirds(&mut book, load, &Running)
+    thirds_afresh(load, &Running)
 }
 
 // By leftover: -66, 33, 33.
+#[tactic(auto, using(crate::proofs::Shares::thirds_leftover))]
 pub fn thirds_leftover(load: u32) -> Result<(i128, i128, i128), Refusal>
     ensures { 1 ≤ load → load ≤ 20000000 → result ≡ Ok (negsuc 65, pos 33, pos 33) }
 {
-    let mut slots = [Slot { stands: true }; 3];
-    let mut entries = [Entry {
-        load: 9,
-        paid: 9,
-        charged: 9,
-    }; 9];
-    let mut book = Book::over(&mut slots, &mut entries);
-    thirds(&mut book, load, &Leftover)
+    thirds_afresh(load, &Leftover)
 }

@@ -5,12 +5,13 @@ ghost use Rattle.std.specs.Prelude.{◌≡◌, pos, ◌+ℤ◌, IfOk};
 
 pub mod figures;
 pub mod lending;
+mod tables;
 #[cfg(test)]
 mod tests;
 
+use crate::tables::{USED_ENTRY, USED_SLOT};
 use assess::refusals::Refusal;
 use book::ledger::Book;
-use book::rows::{Entry, Slot};
 use charges::adjustment::Adjustment;
 use charges::listed::{Listed, ListedRow};
 use charges::period::{Period, State};
@@ -53,12 +54,8 @@ pub fn day_over_arrays(
 ) -> Result<(i128, i128, i128), Refusal>
     ensures { IfOk result (λ v. (v.0 +ℤ v.1) +ℤ v.2 ≡ pos 0) }
 {
-    let mut slots = [Slot { stands: true }; 20];
-    let mut entries = [Entry {
-        load: 9,
-        paid: 9,
-        charged: 9,
-    }; 40];
+    let mut slots = [USED_SLOT; 20];
+    let mut entries = [USED_ENTRY; 40];
     let mut book = Book::over(&mut slots, &mut entries);
     day(&mut book, loads, rows, adjustment)
 }

@@ -1,9 +1,10 @@
 // The edges of a settlement's total.
+use crate::tables::{USED_ENTRY, USED_SLOT};
 use assess::refusals::Refusal;
 use book::ledger::Book;
-use book::rows::{Entry, Slot};
 use charges::listed::{Listed, ListedRow};
 use charges::rowsource::RowSource;
+use numbers::numbered::Numbered;
 use sharing::running::Running;
 
 // Settles rows over two equal loads; what party 1 then owes.
@@ -19,12 +20,8 @@ fn settle_rows(book: &mut Book, rows: &[ListedRow], load: u32) -> Result<i128, R
 
 // The number and place of the refusal, or 0 and what party 1 then owes.
 fn outcome(rows: &[ListedRow], load: u32) -> (u8, i128) {
-    let mut slots = [Slot { stands: true }; 3];
-    let mut entries = [Entry {
-        load: 9,
-        paid: 9,
-        charged: 9,
-    }; 6];
+    let mut slots = [USED_SLOT; 3];
+    let mut entries = [USED_ENTRY; 6];
     let mut book = Book::over(&mut slots, &mut entries);
     match settle_rows(&mut book, rows, load) {
         Ok(balance) => (0, balance),

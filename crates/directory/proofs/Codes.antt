@@ -1,15 +1,14 @@
 -- The order of well-formed codes in the words of their texts, and why no ill-formed code is found.
 use Rattle.std.proofs.Common.{◌≡◌, ℕ, zero, suc, ◌-◌, ◌<◌, true, List, [], ◌∷◌, take, Some, None, Ordering, Less, Equal, Greater, sym, refl, ap, ◌∙◌, subst, inl, inr, ⊎_elim, arith}
-use Rattle.std.specs.Cmp.{ranks}
+use Rattle.std.specs.Cmp.{ranks, nat_cmp_total, Equal-is}
 use Rattle.std.specs.Ordering.{is_lt, is_eq, ordering_then, MatchOrdering, nat_cmp}
 use Rattle.std.proofs.lemmas.Bool.{false≢true, both_ways, and_parts, eqb-true, lt-ltb}
+use Rattle.std.proofs.lemmas.Cmp.{tied_itself}
 use Rattle.numbers.specs.Checks.{Passed}
 use Rattle.directory.specs.declared.parties.PartyCode.{PartyCode}
-use Rattle.directory.specs.Sameness.{text_same}
-use Rattle.directory.specs.Orders.{by_size, by_bytes}
+use Rattle.directory.specs.Orders.{by_bytes, compared}
 use Rattle.directory.specs.Refusals.{checks}
 use Rattle.directory.specs.Codes.{text_of, sense_of, is_code, well_formed, party_kind, Before, InByteOrder, NoStrangers}
-use Rattle.directory.proofs.Found.{itself}
 
 abbrev lex : List ℕ → List ℕ → Ordering
 lex = by_bytes.cmp
@@ -37,7 +36,7 @@ before_lex (x ∷ xs) (y ∷ ys) (zero, same, short, inr (long, less)) = rw (lt-
 before_lex (x ∷ xs) (y ∷ ys) (suc k, same, short, ends) =
     let head : x ≡ y = cc in
     let rest : take k xs ≡ take k ys = cc in
-    let level : nat_cmp x y ≡ Equal = subst (λ z. nat_cmp z y ≡ Equal) (sym head) (itself by_size y) in
+    let level : nat_cmp x y ≡ Equal = subst (λ z. nat_cmp z y ≡ Equal) (sym head) (tied_itself nat_cmp_total y) in
     rw level (before_lex xs ys (k, rest, omega arith, ⊎_elim (λ e. inl (omega arith)) (λ p. inr (omega arith, p.1)) ends))
 
 then_level : (o : Ordering) → ordering_then o Equal ≡ o
@@ -45,13 +44,8 @@ then_level Less = refl
 then_level Equal = refl
 then_level Greater = refl
 
-equal_is : (o : Ordering) → is_eq o ≡ true → o ≡ Equal
-equal_is Less e = absurd (false≢true e)
-equal_is Equal e = refl
-equal_is Greater e = absurd (false≢true e)
-
 -- no byte too many
-whole : (x : PartyCode) → well_formed x ≡ true → x.length - 8 ≡ 0
+whole : (x : PartyCode) → well_formed x ≡ true → x.excess ≡ 0
 whole x h = eqb-true _ _ (and_parts _ _ (and_parts _ _ h).0).1
 
 -- the texts decide
@@ -64,8 +58,8 @@ in_byte_order x y h k =
     record {
       below = rw e (lex_before (text_of x) (text_of y), before_lex (text_of x) (text_of y));
       same = rw e (
-        (λ t. text_same (text_of x) (text_of y) (equal_is _ t)),
-        (λ s. ap is_eq (subst (λ t. lex (text_of x) t ≡ Equal) s (itself by_bytes (text_of x)))),
+        (λ t. by_bytes.same (text_of x) (text_of y) ((Equal-is _).0 t)),
+        (λ s. ap is_eq (subst (λ t. lex (text_of x) t ≡ Equal) s (tied_itself (compared by_bytes) (text_of x)))),
       );
     }
 

@@ -1,77 +1,56 @@
--- Rising keys: no key stands twice, and a key compared at one place is after it or before it.
-use Rattle.std.proofs.Common.{◌≡◌, ℕ, zero, suc, ◌+◌, ◌-◌, ◌<◌, ◌≤◌, true, eqb, List, length, get_or, Ordering, Less, Equal, Greater, sym, refl, ap, ◌∙◌, subst, ⊎_elim, eq-or-lt_of_le, arith}
-use Rattle.std.specs.Ordering.{is_lt, is_gt, ordering_reverse}
-use Rattle.std.proofs.lemmas.Bool.{true≢false, or_cases, eqb-true, cases_lt, cases_order}
-use Rattle.directory.specs.Orders.{Order}
-use Rattle.directory.specs.Kinds.{Kind, Rising, HasAt}
+-- What a binary search finds among rising keys.
+use Rattle.std.proofs.Common.{◌≡◌, ℕ, ◌+◌, ◌-◌, ◌<◌, true, List, [], ◌∷◌, length, get_or, Some, None, Ordering, Less, Equal, Greater, ⊎_elim, arith}
+use Rattle.std.specs.List.{HoldsAt}
+use Rattle.std.specs.List.Sorted.{IsSortedBy, IsNonDecreasingBy, IsPartitionPoint}
+use Rattle.std.specs.Ordering.{is_lt, ordering_index}
+use Rattle.std.proofs.lemmas.Bool.{both_ways, cases_lt, cases_order}
+use Rattle.std.proofs.lemmas.Cmp.{tied_itself}
+use Rattle.std.proofs.lemmas.Grind.{common_steps}
+use Rattle.std.proofs.lemmas.List.Sorted.{ranks_by, sorted_far, searchable_from_sorted}
+use Rattle.directory.specs.Orders.{compared}
+use Rattle.directory.specs.Kinds.{Kind, Rising, HasAt, Found}
 
--- an answer that is its own reverse
-level : (o : Ordering) → o ≡ ordering_reverse o → o ≡ Equal
-level Less e = absurd (true≢false (ap is_lt e))
-level Equal e = refl
-level Greater e = absurd (true≢false (ap is_gt e))
+-- a record of a list that has a place
+record_of : {X : Type 0} (xs : List X) (k : ℕ) → k < length xs → X
+record_of [] k h = absurd (omega arith)
+record_of (x ∷ xs) k h = x
 
-less : (o : Ordering) → is_lt o ≡ true → o ≡ Less
-less Less e = refl
-less Equal e = absurd (true≢false (sym e))
-less Greater e = absurd (true≢false (sym e))
-
--- a key is neither below nor above itself
-module _ {K : Type 0} (order : Order K) (key : K) where
-  pub itself : order.cmp key key ≡ Equal
-  itself = level (order.cmp key key) (order.flip key key)
-
-  not_below : order.cmp key key ≡ Less → ⊥
-  not_below e = true≢false (ap is_lt (sym e ∙ itself))
-
-  not_above : order.cmp key key ≡ Greater → ⊥
-  not_above e = true≢false (ap is_gt (sym e ∙ itself))
-
-module _ {R K : Type 0} (kind : Kind R K) (xs : List R) (up : Rising kind xs) (d : R) where
-  abbrev key_at : ℕ → K
-  key_at k = kind.key_of (get_or xs k d)
-
+module _ {R K : Type 0} (kind : Kind R K) (xs : List R) (up : Rising kind xs) where
   abbrev cmp : K → K → Ordering
   cmp = kind.order.cmp
 
-  -- a later key is above
-  far : (i j : ℕ) → i < j → j < length xs → cmp (key_at i) (key_at j) ≡ Less
-  far i zero h l = absurd (omega arith)
-  far i (suc m) h l =
-      let back : suc m - 1 ≡ m = omega arith in
-      let above : is_lt (cmp (key_at (suc m - 1)) (key_at (suc m))) ≡ true = ⊎_elim (λ z. absurd (omega (arith, eqb-true (suc m) 0 z))) (λ t. t) (or_cases (eqb (suc m) 0) _ (up (suc m) l d)) in
-      let next : cmp (key_at m) (key_at (suc m)) ≡ Less = subst (λ k. cmp (key_at k) (key_at (suc m)) ≡ Less) back (less _ above) in
-      ⊎_elim
-      (λ e. subst (λ k. cmp (key_at k) (key_at (suc m)) ≡ Less) (sym e) next)
-      (λ lt. kind.order.trans (key_at i) (key_at m) (key_at (suc m)) (far i m lt (omega arith)) next)
-      (eq-or-lt_of_le {n = i} {m = m} (omega arith))
+  -- each key is below the next
+  below : (k : ℕ) (d : R) → k + 1 < length xs → is_lt (cmp (kind.key_of (get_or xs k d)) (kind.key_of (get_or xs (k + 1) d))) ≡ true
+  below k d h = let a = up (k + 1) h d in grind (arith, common_steps)
 
-  -- no key stands twice
-  apart : (i j : ℕ) (key : K) → i < j → j < length xs → key_at i ≡ key → key_at j ≡ key → ⊥
-  apart i j key h l a b =
-      let less : cmp (key_at i) (key_at j) ≡ Less = far i j h l in
-      not_below kind.order key (rw (a, b) at less)
+  -- so the list is sorted as a search asks
+  sorted : IsSortedBy (λ x y. is_lt (cmp (kind.key_of x) (kind.key_of y))) xs
+  sorted k d first h = (ranks_by (compared kind.order) kind.key_of).one_way _ _ (below k d h)
 
-  -- the key at i is below: every place of the key is a later one
-  pub after : (i : ℕ) (key : K) → i < length xs → cmp (key_at i) key ≡ Less → (p : ℕ) → HasAt kind xs key p → i + 1 < p
-  after i key l e p h = ⊎_elim (λ lt. lt) (λ le. absurd (⊎_elim
-      (λ same. not_below kind.order key (subst (λ x. cmp x key ≡ Less) (ap key_at (sym same) ∙ h.2 d) e))
-      (λ lt. let less : cmp (key_at (p - 1)) (key_at i) ≡ Less = far (p - 1) i lt l in
-      not_below kind.order key (kind.order.trans key (key_at i) key (subst (λ x. cmp x (key_at i) ≡ Less) (h.2 d) less) e))
-      (eq-or-lt_of_le {n = p - 1} {m = i} (omega arith)))) (cases_lt (i + 1) p)
+  module _ (key : K) where
+    -- no key stands twice
+    apart : (p q : ℕ) → HasAt kind xs key p → HasAt kind xs key q → p < q → ⊥
+    apart p q at_p at_q lt =
+        let d : R = record_of xs (p - 1) (omega arith) in
+        let next = below (p - 1) d (omega arith) in
+        let far = sorted_far _ (ranks_by (compared kind.order) kind.key_of) xs sorted (p - 1 + 1) (q - 1) d (omega arith) (omega arith) in
+        both_ways _ (rw (at_q.2 d) at far) (rw (at_p.2 d) at next)
 
-  -- the key at i is above: every place of the key is an earlier one
-  pub before : (i : ℕ) (key : K) → cmp (key_at i) key ≡ Greater → (p : ℕ) → HasAt kind xs key p → p ≤ i
-  before i key e p h = ⊎_elim (λ lt. absurd (⊎_elim
-      (λ same. not_above kind.order key (subst (λ x. cmp x key ≡ Greater) (ap key_at same ∙ h.2 d) e))
-      (λ lt. let less : cmp (key_at i) (key_at (p - 1)) ≡ Less = far i (p - 1) lt (omega arith) in
-      true≢false (ap is_lt (sym (subst (λ x. cmp (key_at i) x ≡ Less) (h.2 d) less) ∙ e)))
-      (eq-or-lt_of_le {n = i} {m = p - 1} (omega arith)))) (λ le. le) (cases_lt i p)
+    -- where the search ends at a record, that record alone has the key
+    pub found : (at : ℕ) → at < length xs → HoldsAt (λ x. cmp (kind.key_of x) key ≡ Equal) xs at → Found kind xs key (Some (at + 1))
+    found at h equal =
+        let back : at + 1 - 1 ≡ at = omega arith in
+        let here : HasAt kind xs key (at + 1) = (omega arith, omega arith, λ d. rw back (kind.order.same _ _ (equal d))) in
+        (here, λ other there. ⊎_elim (λ e. e) (⊎_elim (λ lt. absurd (apart other (at + 1) there here lt)) (λ lt. absurd (apart (at + 1) other here there lt))) (cases_order other (at + 1)))
 
-  -- the key is at one place
-  pub alone : (key : K) (p q : ℕ) → HasAt kind xs key p → HasAt kind xs key q → q ≡ p
-  alone key p q h k = ⊎_elim (λ e. e)
-      (⊎_elim
-      (λ lt. absurd (apart (q - 1) (p - 1) key (omega arith) (omega arith) (k.2 d) (h.2 d)))
-      (λ lt. absurd (apart (p - 1) (q - 1) key (omega arith) (omega arith) (h.2 d) (k.2 d))))
-      (cases_order q p)
+    -- where it ends between two records, none has the key
+    pub absent : (at : ℕ) → (IsNonDecreasingBy (λ x. ordering_index (cmp (kind.key_of x) key)) xs → IsPartitionPoint (λ x. cmp (kind.key_of x) key ≡ Less) (λ x. cmp (kind.key_of x) key ≡ Greater) xs at)
+        → Found kind xs key None
+    absent at parted place there =
+        let parts = parted (searchable_from_sorted (compared kind.order) kind.key_of xs key sorted) in
+        let d : R = record_of xs (place - 1) (omega arith) in
+        let tied : cmp (kind.key_of (get_or xs (place - 1) d)) key ≡ Equal = rw (there.2 d) (tied_itself (compared kind.order) key) in
+        ⊎_elim
+        (λ lt. let less = parts.0 (place - 1) d (omega arith) lt in cc)
+        (λ le. let greater = parts.1 (place - 1) d le (omega arith) in cc)
+        (cases_lt (place - 1) at)

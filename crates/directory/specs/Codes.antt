@@ -1,6 +1,8 @@
 -- Party codes: 1 to 8 capitals or digits, in byte order, a prefix before what it begins.
-use Rattle.std.specs.Prelude.{◌≡◌, ℕ, ◌-◌, ◌<◌, min, Bool, true, false, ◌&&◌, ◌||◌, ◌⊎◌, List, length, take, None, Decides, fold, Option, ◌==◌, nat_le, slice_index}
+use Rattle.std.specs.Prelude.{◌≡◌, ℕ, ◌-◌, ◌<◌, Bool, true, false, ◌&&◌, ◌||◌, ◌⊎◌, List, length, take, None, Decides, Option, ◌==◌, nat_le, slice_index}
+use Rattle.std.specs.List.{list_all}
 use Rattle.std.specs.Ordering.{is_lt, is_eq}
+use Rattle.bounded.specs.Items.{items_of}
 use Rattle.directory.specs.declared.parties.PartyCode.{PartyCode}
 use Rattle.directory.specs.Orders.{by_size, by_bytes, in_turn}
 use Rattle.directory.specs.Kinds.{Kind, Found}
@@ -15,11 +17,11 @@ meaning_of text = (take 8 text, length text - 8)
 
 -- the first 8 bytes of a code, or all if it has fewer
 abbrev pub text_of : PartyCode → List ℕ
-text_of c = take (min c.length 8) c.bytes
+text_of c = items_of c.text
 
 -- what a code means
 abbrev pub sense_of : PartyCode → Meaning
-sense_of c = (text_of c, c.length - 8)
+sense_of c = (text_of c, c.excess)
 
 -- a capital or a digit
 abbrev pub is_sign : ℕ → Bool
@@ -27,7 +29,7 @@ is_sign b = (nat_le 65 b && nat_le b 90) || (nat_le 48 b && nat_le b 57)
 
 -- each byte is such a sign
 abbrev pub all_signs : List ℕ → Bool
-all_signs text = fold (λ all b. all && is_sign b) true text
+all_signs text = list_all is_sign text
 
 -- 1 to 8 capitals or digits: there are bytes, none beyond the eighth, and each is a sign
 abbrev pub is_code : Meaning → Bool

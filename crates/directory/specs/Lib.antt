@@ -1,4 +1,3 @@
-pub mod Sameness
 pub mod Orders
 pub mod Kinds
 pub mod Refusals

@@ -5,7 +5,7 @@ use Rattle.std.specs.declared.cmp.Ordering.{Ordering}
 use Rattle.std.proofs.Common.{ap}
 use Rattle.std.specs.Cmp.{IsTotalOrder, nat_cmp_total, on_total, then_total}
 use Rattle.std.specs.Ordering.{ordering_reverse}
-use Rattle.directory.specs.Sameness.{number_same, text_same, pair_same}
+use Rattle.std.proofs.lemmas.Map.Lookups.{exact_unsigned, exact_bytes, exact_pairs}
 use Rattle.std.specs.Cmp.Lexicographic.{lists_total}
 
 -- one answer for any two keys, turned when they are turned, carried on from key to key, and equal only for the same key
@@ -21,11 +21,11 @@ ordered {K} {R} o same = record { cmp = R; flip = o.antisymm; trans = o.trans; s
 
 -- numbers by size
 abbrev pub by_size : Order ℕ
-by_size = ordered nat_cmp_total number_same
+by_size = ordered nat_cmp_total exact_unsigned
 
 -- texts by their bytes: the first that differs decides, and a prefix is below what it begins
 abbrev pub by_bytes : Order (List ℕ)
-by_bytes = ordered (lists_total nat_cmp_total) text_same
+by_bytes = ordered (lists_total nat_cmp_total) exact_bytes
 
 -- an order as a comparison
 abbrev pub compared : {K : Type 0} (o : Order K) → IsTotalOrder o.cmp
@@ -33,4 +33,4 @@ compared o = record { antisymm = o.flip; trans = o.trans; congr = λ x y z e. ap
 
 -- pairs by their first parts, and where these are the same by their second
 abbrev pub in_turn : {A B : Type 0} → Order A → Order B → Order (A × B)
-in_turn {A} {B} a b = ordered (then_total (on_total (λ (p : A × B). p.0) (compared a)) (on_total (λ (p : A × B). p.1) (compared b))) (pair_same a.cmp b.cmp a.same b.same)
+in_turn {A} {B} a b = ordered (then_total (on_total (λ (p : A × B). p.0) (compared a)) (on_total (λ (p : A × B). p.1) (compared b))) (exact_pairs a.cmp b.cmp a.same b.same)

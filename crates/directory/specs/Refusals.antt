@@ -1,6 +1,6 @@
 -- Why a list of records is refused: the table of checks, each refusal's number and place.
-use Rattle.std.specs.Prelude.{◌≡◌, ℕ, ◌≤◌, List, [], ◌∷◌, length, Result, MatchResult}
-use Rattle.numbers.specs.Checks.{Check, whole, each, Passes, Refuses, Passed, Refused}
+use Rattle.std.specs.Prelude.{◌≡◌, ℕ, ◌≤◌, List, [], ◌∷◌, length, Result}
+use Rattle.numbers.specs.Checks.{Check, whole, each, Answered}
 use Rattle.directory.specs.declared.lookup.DirectoryRefusal.{DirectoryRefusal}
 use Rattle.directory.specs.declared.lookup.DirectoryRefusal.TheVariants.{Count, IllFormed, NotRising}
 use Rattle.directory.specs.Kinds.{Kind, Formed, Above}
@@ -34,10 +34,6 @@ module _ {R K : Type 0} (kind : Kind R K) (xs : List R) where
   abbrev pub checks : List Check
   checks = count_check ∷ form_check ∷ order_check ∷ []
 
-  -- what making a directory answers: one of these records, which passed every check, or the refusal of the first check that fails
+  -- what making a directory answers: one of these records, where every check passes, or the refusal of the first check that does not
   abbrev pub Opened : {D : Type 0} → (D → List R) → Result D DirectoryRefusal → Type 0
-  Opened records_of answer = MatchResult answer (λ d. (records_of d ≡ xs) × Passed checks) (λ refusal. Refused checks (number_of refusal) (place_of refusal))
-
--- what one check answers: it passes, or its refusal
-abbrev pub Checked : {D : Type 0} → Check → Result D DirectoryRefusal → Type 0
-Checked check answer = MatchResult answer (λ _. Passes check) (λ refusal. Refuses check (number_of refusal) (place_of refusal))
+  Opened records_of answer = Answered checks number_of place_of (λ d. records_of d ≡ xs) answer

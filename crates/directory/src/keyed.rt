@@ -21,6 +21,7 @@ pub trait Keyed {
         ensures { sense result ≡ kind.key_of self.now };
 
     // How two keys stand in the order.
+    // Kept: a bound `Ord` on the key in place of this would ask more of implementors, a type that is ordered, and so in one way only.
     fn compare(left: &Self::Key, right: &Self::Key) -> Ordering
         ensures { result ≡ kind.order.cmp (sense left.now) (sense right.now) };
 

@@ -1,5 +1,6 @@
 // Party directories on examples.
 use crate::parties::{PartyCode, parties};
+use numbers::numbered::Numbered;
 
 fn place_of(codes: &[PartyCode], text: &[u8]) -> Option<usize> {
     match parties(codes) {
@@ -8,7 +9,7 @@ fn place_of(codes: &[PartyCode], text: &[u8]) -> Option<usize> {
     }
 }
 
-fn refusal_of(codes: &[PartyCode]) -> (u32, usize) {
+fn refusal_of(codes: &[PartyCode]) -> (u8, usize) {
     match parties(codes) {
         Ok(_) => (0, 0),
         Err(refusal) => (refusal.number(), refusal.place()),

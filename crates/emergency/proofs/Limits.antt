@@ -1,10 +1,10 @@
 -- What the field checks leave, and so the limits of every slice.
-use Rattle.std.proofs.Common.{◌≡◌, ℕ, ◌+◌, ◌<◌, ◌≤◌, Bool, true, false, cond, ◌||◌, ltb, List, [], ◌∷◌, length, get_or, take, ℤ, pos, negsuc, nat_abs, ◌≤ℤ◌, fold, sym, refl, subst, ⊎_elim, zero-add, arith}
+use Rattle.std.proofs.Common.{◌≡◌, ℕ, ◌<◌, ◌≤◌, Bool, true, false, cond, ◌||◌, ltb, List, Option, Some, None, [], ◌∷◌, length, get_or, take, ℤ, pos, negsuc, nat_abs, ◌≤ℤ◌, sym, refl, subst, ⊎_elim, zero-add, arith}
 use borrow.Author.Differences.{ints}
 use lib.Signed.{lt_z}
-use Rattle.std.specs.List.{range_with_len, AllByRecursion}
-use Rattle.std.proofs.lemmas.List.FromFn.{length-range_with_len, get_or-range_with_len}
-use Rattle.std.proofs.ByRecursion.{All-get_or, All-map, All-from_get_or}
+use Rattle.std.specs.List.{AllByRecursion, All, list_any}
+use Rattle.std.proofs.lemmas.List.FromFn.{length-map-range_with_len, get_or-map-range_with_len}
+use Rattle.std.proofs.ByRecursion.{All-get_or}
 use Rattle.std.proofs.lemmas.List.{get_or-take, get_or_past}
 use Rattle.std.proofs.lemmas.Bool.{cases_lt, or_parts, ltb-false}
 use Rattle.numbers.proofs.Integers.{lt_z_false}
@@ -13,31 +13,30 @@ use Rattle.curves.specs.Reading.{price_at}
 use Rattle.curves.proofs.Bounds.{Cheap, price_cheap}
 use Rattle.quarters.specs.Slices.{Lasting}
 use Rattle.emergency.specs.declared.row.EmergencyRow.{EmergencyRow}
+use Rattle.emergency.specs.declared.row.Field.{Field}
+use Rattle.emergency.specs.declared.row.Field.TheVariants.{Resource, SettlementPointPrice, Generation, Charging, BasePoint, Hour, Cap}
 use Rattle.emergency.specs.declared.slices.Slice.{Slice}
 use Rattle.emergency.specs.Fields.{outside, strays, bad_field, Near, Fitting}
 use Rattle.emergency.specs.Payments.{slice, sliced}
 use Rattle.emergency.specs.Weights.{Limited}
 
 -- a check that was passed
-passed : (b : Bool) (k n : ℕ) → 1 ≤ k → cond b k n ≡ 0 → (b ≡ false) × (n ≡ 0)
-passed true k n h e = absurd (omega arith)
-passed false k n h e = (refl, e)
+passed : (b : Bool) (field : Field) (rest : Option Field) → cond b (Some field) rest ≡ None → (b ≡ false) × (rest ≡ None)
+passed true field rest e = cc
+passed false field rest e = (refl, e)
 
 inside : (low high x : ℤ) → outside low high x ≡ false → (low ≤ℤ x) × (x ≤ℤ high)
 inside low high x e = let p = or_parts (lt_z x low) (lt_z high x) e in (lt_z_false x low p.0, lt_z_false high x p.1)
 
 -- a search that found none passed each
-none_of : {X : Type 0} (p : X → Bool) (xs : List X) (a : Bool) → fold (λ b x. b || p x) a xs ≡ false → (a ≡ false) × AllByRecursion (λ x. p x ≡ false) xs
-none_of p [] a e = (e, tt)
-none_of p (x ∷ xs) a e =
-    let rest = none_of p xs (a || p x) e in
-    let here = or_parts a (p x) rest.0 in
-    (here.0, (here.1, rest.1))
+none_of : {X : Type 0} (p : X → Bool) (xs : List X) → list_any p xs ≡ false → AllByRecursion (λ x. p x ≡ false) xs
+none_of p [] e = tt
+none_of p (x ∷ xs) e = let parts = or_parts (p x) (list_any p xs) e in (parts.0, none_of p xs parts.1)
 
 all_near : (m : ℕ) (bases : List ℤ) → strays (take m bases) ≡ false → Near m bases
 all_near m bases e k h =
     ⊎_elim
-    (λ lt. let all = (none_of (outside (negsuc 1999999) (pos 2000000)) (take m bases) false e).1 in
+    (λ lt. let all = none_of (outside (negsuc 1999999) (pos 2000000)) (take m bases) e in
     let here = All-get_or (λ b. outside (negsuc 1999999) (pos 2000000) b ≡ false) (take m bases) k (pos 0) lt all in
     let w = inside (negsuc 1999999) (pos 2000000) (get_or (take m bases) k (pos 0)) here in
     let small : nat_abs (get_or (take m bases) k (pos 0)) ≤ 2000000 = omega (arith, ints) in
@@ -46,16 +45,16 @@ all_near m bases e k h =
     subst (λ y. nat_abs y ≤ 2000000) (get_or-take m bases k (pos 0) h) z)
     (cases_lt k (length (take m bases)))
 
-pub fitting : (m : ℕ) (row : EmergencyRow) → bad_field m row ≡ 0 → Fitting m row
+pub fitting : (m : ℕ) (row : EmergencyRow) → bad_field m row ≡ None → Fitting m row
 unfolding bad_field
 fitting m row e =
-    let p1 = passed (ltb row.resource 1 || ltb 9999 row.resource) 1 _ (omega arith) e in
-    let p2 = passed (outside (negsuc 99999) (pos 1000000) row.spp) 2 _ (omega arith) p1.1 in
-    let p3 = passed (ltb 500000 row.generation) 3 _ (omega arith) p2.1 in
-    let p4 = passed (outside (negsuc 499999) (pos 0) row.charging) 4 _ (omega arith) p3.1 in
-    let p5 = passed (strays (take m row.bases)) 5 _ (omega arith) p4.1 in
-    let p6 = passed (ltb row.hour 1 || ltb 25 row.hour) 6 _ (omega arith) p5.1 in
-    let p7 = passed (outside (pos 0) (pos 1000000) row.cap) 7 0 (omega arith) p6.1 in
+    let p1 = passed (ltb row.resource 1 || ltb 9999 row.resource) Resource _ e in
+    let p2 = passed (outside (negsuc 99999) (pos 1000000) row.spp) SettlementPointPrice _ p1.1 in
+    let p3 = passed (ltb 500000 row.generation) Generation _ p2.1 in
+    let p4 = passed (outside (negsuc 499999) (pos 0) row.charging) Charging _ p3.1 in
+    let p5 = passed (strays (take m row.bases)) BasePoint _ p4.1 in
+    let p6 = passed (ltb row.hour 1 || ltb 25 row.hour) Hour _ p5.1 in
+    let p7 = passed (outside (pos 0) (pos 1000000) row.cap) Cap None p6.1 in
     let r = or_parts (ltb row.resource 1) (ltb 9999 row.resource) p1.0 in
     let s = inside (negsuc 99999) (pos 1000000) row.spp p2.0 in
     let c = inside (negsuc 499999) (pos 0) row.charging p4.0 in
@@ -72,14 +71,17 @@ fitting m row e =
       capped = k.1;
     }
 
-pub sliced_limited : (ps : List Point) (seconds : List ℕ) (row : EmergencyRow) → AllByRecursion Cheap ps → Lasting seconds → Fitting (length seconds) row → AllByRecursion Limited (sliced ps row.cap seconds row.bases)
+pub sliced_limited : (ps : List Point) (seconds : List ℕ) (row : EmergencyRow) → AllByRecursion Cheap ps → Lasting seconds → Fitting (length seconds) row → All Limited (sliced ps row.cap seconds row.bases)
 unfolding sliced
-sliced_limited ps seconds row cheap lasting fit =
+sliced_limited ps seconds row cheap lasting fit k d h =
     let f : ℕ → Slice = λ k. slice (get_or seconds k 0) (get_or row.bases k (pos 0)) (price_at ps row.cap (get_or row.bases k (pos 0))) in
-    All-map Limited f (range_with_len 0 (length seconds))
-    (All-from_get_or (λ k. Limited (f k)) (range_with_len 0 (length seconds)) 0
-    (λ i h. let lt : i < length seconds = omega (arith, length-range_with_len 0 (length seconds)) in
-    let e : get_or (range_with_len 0 (length seconds)) i 0 ≡ 0 + i = get_or-range_with_len 0 (length seconds) i 0 lt in
-    subst (λ k. Limited (f k)) (sym e)
-    (subst (λ k. Limited (f k)) (sym (zero-add i))
-    ((lasting i lt).0, (lasting i lt).1, fit.near i lt, price_cheap ps row.cap (get_or row.bases i (pos 0)) cheap fit.free fit.capped))))
+    let lt : k < length seconds = omega (arith, length-map-range_with_len f 0 (length seconds)) in
+    subst Limited (sym (get_or-map-range_with_len f 0 (length seconds) k k d lt (zero-add k)))
+    ((lasting k lt).0, (lasting k lt).1, fit.near k lt, price_cheap ps row.cap (get_or row.bases k (pos 0)) cheap fit.free fit.capped)
+
+pub length-sliced : (ps : List Point) (cap : ℤ) (seconds : List ℕ) (bases : List ℤ) → length (sliced ps cap seconds bases) ≡ length seconds
+unfolding sliced
+length-sliced ps cap seconds bases = length-map-range_with_len (λ k. slice (get_or seconds k 0) (get_or bases k (pos 0)) (price_at ps cap (get_or bases k (pos 0)))) 0 (length seconds)
+
+-- what leads from the field checks to the payment
+pub ruleset settled = (fitting, length-sliced)

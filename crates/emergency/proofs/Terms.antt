@@ -1,45 +1,62 @@
 -- One term of a sum over the slices.
-use Rattle.std.proofs.Common.{◌≡◌, ℕ, ◌+◌, ◌*◌, ◌<◌, ◌≤◌, List, length, get_or, take, ℤ, pos, ◌+ℤ◌, ◌*ℤ◌, nat_abs, ap, ◌∙◌, mul-le-mul, mul-add, arith, w32, w64, SFits, to_z, of_z}
+use Rattle.std.proofs.Common.{◌≡◌, ℕ, ◌+◌, ◌*◌, ◌<◌, ◌≤◌, List, length, get_or, take, ℤ, pos, ◌+ℤ◌, ◌*ℤ◌, nat_abs, ◌∙◌, mul-le-mul, arith, w64, SFits, to_z, of_z}
 use borrow.Author.Differences.{ints}
-use Rattle.std.proofs.lemmas.Int.{to_z-of_z, clamps}
+use Rattle.std.specs.List.{All}
+use Rattle.std.proofs.lemmas.Int.{clamps}
+use Rattle.std.proofs.lemmas.List.{length-take}
 use Rattle.std.proofs.lemmas.List.Sums.{fold_more}
 use Rattle.numbers.proofs.Integers.{abs_scaled}
+use Rattle.numbers.specs.Sums.{signed_sum}
+use Rattle.emergency.specs.declared.priced.PricedSlices.{PricedSlices}
 use Rattle.emergency.specs.declared.slices.Slice.{Slice}
 use Rattle.emergency.specs.declared.slices.Side.{Side}
 use Rattle.emergency.specs.declared.slices.Side.TheVariants.{Above, Below}
-use Rattle.numbers.specs.Sums.{signed_sum}
-use Rattle.emergency.specs.Energy.{power}
+use Rattle.emergency.specs.Energy.{reach, power}
+use Rattle.emergency.specs.Priced.{slices_in}
+use Rattle.emergency.specs.Weights.{weight_of, Limited}
 
--- the element that a read past the end would give
-abbrev pub none : Slice
-none = record { seconds = 0; base = pos 0; price = pos 0 }
+-- a term's limit
+abbrev pub limit : ℕ
+limit = 1800000000000000
 
--- a product, clear of its bits, and its size
-pub term : (p z : ℤ) (w m k : ℕ) → z ≡ to_z w32 (of_z w32 p) *ℤ pos w → nat_abs p ≤ m → m ≤ 2000000 → w ≤ k → (z ≡ p *ℤ pos w) × (nat_abs z ≤ m * k)
-term p z w m k e h i j =
-    let f : SFits w32 p = omega (arith, ints) in
-    let e' : z ≡ p *ℤ pos w = e ∙ ap (λ x. x *ℤ pos w) (to_z-of_z w32 p f) in
-    (e', rw e' (omega (arith, abs_scaled p w, mul-le-mul h j)))
+reach_small : (side : Side) (x : Slice) → nat_abs x.base ≤ 2000000 → nat_abs (reach side x) ≤ 2000000
+reach_small Above x h = omega (arith, ints, clamps)
+reach_small Below x h = omega (arith, ints, clamps)
 
-pub power_small : (side : Side) (x : Slice) → nat_abs x.base ≤ 2000000 → nat_abs (power side x) ≤ 2000000
+power_small : (side : Side) (x : Slice) → nat_abs x.base ≤ 2000000 → nat_abs (power side x) ≤ 2000000
 power_small Above x h = omega (arith, ints, clamps)
 power_small Below x h = omega (arith, ints, clamps)
 
--- one more term of a sum
-pub sum_more : (f : Slice → ℤ) (xs : List Slice) (i : ℕ) (a z : ℤ) → i < length xs → a ≡ signed_sum f (take i xs) → z ≡ f (get_or xs i none) → a +ℤ z ≡ signed_sum f (take (i + 1) xs)
-sum_more f xs i a z h p q = rw (fold_more (λ b x. b +ℤ f x) (pos 0) xs i none h, p, q)
+weight_small : (side : Side) (x : Slice) → Limited x → weight_of side x ≤ 1800000000
+weight_small side x h = omega (arith, mul-le-mul (reach_small side x h.2) h.1)
 
--- a step of a signed sum, as the bits hold it
-module _ (f : Slice → ℤ) (xs : List Slice) (i m : ℕ) (a z : ℤ) (lt : i < length xs) (few : length xs ≤ 15)
-    (inv : (a ≡ signed_sum f (take i xs)) × (nat_abs a ≤ m * i)) (is : z ≡ f (get_or xs i none)) (small : nat_abs z ≤ m) (most : m ≤ 1800000000000000) where
+-- a price by its weight, and a power as long as it lasts
+pub price_small : (side : Side) (x : Slice) → Limited x → nat_abs (x.price *ℤ pos (weight_of side x)) ≤ limit
+price_small side x h = omega (arith, abs_scaled x.price (weight_of side x), mul-le-mul h.3 (weight_small side x h))
+
+pub work_small : (side : Side) (x : Slice) → Limited x → nat_abs (power side x *ℤ pos x.seconds) ≤ limit
+work_small side x h = omega (arith, abs_scaled (power side x) x.seconds, mul-le-mul (power_small side x h.2) h.1)
+
+few : (slices : PricedSlices) → length (slices_in slices) ≤ 15
+few slices = omega (arith, length-take slices.list.count slices.list.slots, slices.list.within)
+
+-- a step of a signed sum over the slices, as the bits hold it
+module _ (f : Slice → ℤ) (small : (x : Slice) → Limited x → nat_abs (f x) ≤ limit) (slices : PricedSlices) (xs : List Slice) (is_slices : xs ≡ slices_in slices)
+    (i : ℕ) (none : Slice) (a z : ℤ) (lt : i < length xs) (inv : (a ≡ signed_sum f (take i xs)) × (nat_abs a ≤ limit * i)) (is : z ≡ f (get_or xs i none)) where
+  below : i ≤ 15
+  below = let most : length xs ≤ 15 = rw is_slices (few slices) in omega arith
+
+  term : nat_abs z ≤ limit
+  term = let each : All Limited xs = rw is_slices slices.each in rw is (small (get_or xs i none) (each i none lt))
+
   before : nat_abs a ≤ 27000000000000000
-  before = let i15 : i ≤ 15 = omega arith in omega (arith, inv.1, mul-le-mul most i15)
+  before = omega (arith, inv.1, below)
 
   pub step_fits : SFits w64 (a +ℤ to_z w64 (of_z w64 z))
-  step_fits = omega (arith, ints, before)
+  step_fits = omega (arith, ints, before, term)
 
   clear : to_z w64 (of_z w64 (a +ℤ to_z w64 (of_z w64 z))) ≡ a +ℤ z
-  clear = omega (arith, ints, before)
+  clear = omega (arith, ints, before, term)
 
-  pub step_sum : (to_z w64 (of_z w64 (a +ℤ to_z w64 (of_z w64 z))) ≡ signed_sum f (take (i + 1) xs)) × (nat_abs (to_z w64 (of_z w64 (a +ℤ to_z w64 (of_z w64 z)))) ≤ m * (i + 1))
-  step_sum = (clear ∙ sum_more f xs i a z lt inv.0 is, rw clear (omega (arith, ints, inv.1, mul-add m i 1)))
+  pub step_sum : (to_z w64 (of_z w64 (a +ℤ to_z w64 (of_z w64 z))) ≡ signed_sum f (take (i + 1) xs)) × (nat_abs (to_z w64 (of_z w64 (a +ℤ to_z w64 (of_z w64 z)))) ≤ limit * (i + 1))
+  step_sum = (clear ∙ rw (fold_more (λ b x. b +ℤ f x) (pos 0) xs i none lt, ← inv.0, is), rw clear (omega (arith, ints, inv.1, term)))

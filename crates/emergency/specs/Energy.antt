@@ -1,6 +1,7 @@
 -- The emergency energy payment of a resource in a quarter hour, from its priced slices. Prices are cents per MWh, powers kW, energies kWh, durations seconds, amounts cents.
-use Rattle.std.specs.Prelude.{ℕ, Bool, false, cond, ◌||◌, List, ℤ, pos, negsuc, ◌+ℤ◌, ◌-ℤ◌, ◌*ℤ◌, fold, int_lt, unsigned_abs}
+use Rattle.std.specs.Prelude.{ℕ, Bool, cond, List, ℤ, pos, neg_ℤ, ◌+ℤ◌, ◌-ℤ◌, ◌*ℤ◌, int_lt, unsigned_abs}
 use Rattle.std.specs.Int.{int_min, int_max}
+use Rattle.std.specs.List.{list_any}
 use Rattle.numbers.specs.Sums.{signed_sum}
 use Rattle.rounding.specs.Nearest.{nearest_to, nearest_over}
 use Rattle.emergency.specs.declared.slices.Slice.{Slice}
@@ -14,12 +15,16 @@ lies Below x = int_lt x.base (pos 0)
 
 -- some slice's base point lies on that side
 abbrev pub some : Side → List Slice → Bool
-some side xs = fold (λ a x. a || lies side x) false xs
+some side xs = list_any (lies side) xs
+
+-- max(least, BP), or min(−least, BP)
+abbrev pub at_least : ℕ → Side → Slice → ℤ
+at_least least Above x = int_max (pos least) x.base
+at_least least Below x = int_min (neg_ℤ (pos least)) x.base
 
 -- max(1, BP), or min(−1, BP)
 abbrev pub reach : Side → Slice → ℤ
-reach Above x = int_max (pos 1) x.base
-reach Below x = int_min (negsuc 0) x.base
+reach side x = at_least 1 side x
 
 -- that times the seconds: how much a slice's price counts
 abbrev pub weight : Side → Slice → ℤ
@@ -27,8 +32,7 @@ weight side x = reach side x *ℤ pos x.seconds
 
 -- max(0, BP), or min(0, BP)
 abbrev pub power : Side → Slice → ℤ
-power Above x = int_max (pos 0) x.base
-power Below x = int_min (pos 0) x.base
+power side x = at_least 0 side x
 
 -- W and V: the nearest to Σ(price × weight) / Σ weight; 0 if no base point lies on that side
 unfoldable pub mean_price : Side → List Slice → ℤ
@@ -45,6 +49,10 @@ discharged generation xs = cond (some Above xs) (int_max (pos 0) (int_min (pos g
 -- D: what was scheduled below zero, but no more than was charged
 unfoldable pub charged : ℤ → List Slice → ℤ
 charged charging xs = cond (some Below xs) (int_min (pos 0) (int_max charging (scheduled Below xs))) (pos 0)
+
+-- what was scheduled on one side, between two limits around zero; 0 if no base point lies there
+unfoldable pub energy_between : Side → ℤ → ℤ → List Slice → ℤ
+energy_between side least most xs = cond (some side xs) (int_max least (int_min (scheduled side xs) most)) (pos 0)
 
 -- SPP × (E + D) − W × E − V × D
 abbrev pub due : ℤ → ℤ → ℤ → ℤ → ℤ → ℤ

@@ -3,6 +3,7 @@ use Rattle.std.specs.Prelude.{◌≡◌, ℕ, List, [], ◌∷◌, replicate, �
 use Rattle.curves.specs.Completion.{completed}
 use Rattle.curves.specs.Figures.{k_row}
 use Rattle.emergency.specs.declared.row.EmergencyRow.{EmergencyRow}
+use Rattle.emergency.specs.declared.row.Field.TheVariants.{SettlementPointPrice}
 use Rattle.emergency.specs.declared.row.RowFault.TheVariants.{Outside}
 use Rattle.emergency.specs.declared.slices.Slice.{Slice}
 use Rattle.emergency.specs.declared.slices.Side.TheVariants.{Above}
@@ -41,6 +42,6 @@ pub record Figures : Type 0 where
   pub low : amount (pos 3000) 30000 (pos 0) k_slices ≡ negsuc 12512
   pub level : amount (pos 3429) 30000 (pos 0) k_slices ≡ pos 0
   pub row : payment_on seconds (completed (k_row (pos 50000))) (two_slices (pos 3000)) ≡ Ok (paid k_slices (pos 3000) 30000 (pos 0))
-  pub dear : payment_on seconds (completed (k_row (pos 50000))) (two_slices (pos 1000001)) ≡ Err (Outside 2)
+  pub dear : payment_on seconds (completed (k_row (pos 50000))) (two_slices (pos 1000001)) ≡ Err (Outside SettlementPointPrice)
   pub drawn : charged (negsuc 5999) drawing ≡ negsuc 4999
   pub drawn_amount : amount (pos 5000) 0 (negsuc 5999) drawing ≡ negsuc 9999

@@ -4,6 +4,6 @@
 mod fields;
 pub mod figures;
 pub mod payment;
+mod priced;
 pub mod row;
 pub mod slices;
-mod sums;

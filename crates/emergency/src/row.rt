@@ -1,9 +1,12 @@
-// A row of readings as it is handed in: nothing is promised of it.
-ghost use Rattle.std.specs.Prelude.{◌≡◌};
-ghost use Rattle.emergency.specs.Faults.{cause_of, field_of};
+// A row of readings as it is handed in, of which nothing is promised, and why it may give no payment.
+ghost use Rattle.std.specs.Prelude.{◌≡◌, Some};
+ghost use Rattle.emergency.specs.declared.row.RowFault.TheVariants.{Outside};
+ghost use Rattle.emergency.specs.Faults.{number_of, name_of, cause_of, field_of};
+
+use std::fmt;
 
 // What a resource did in the quarter hour, and what it is settled by.
-#[derive(Clone, Copy)]
+#[derive(Clone, Copy, PartialEq, Eq, Debug)]
 pub struct EmergencyRow {
     pub resource: u16,
     pub party: u8,
@@ -13,17 +16,55 @@ pub struct EmergencyRow {
     pub generation: u32,
     pub charging: i32,
     // a base point for each slice, in kW; what lies past the slices does not count
+    // Kept: a row as it is handed in: the quarter hour says how many of them count.
     pub bases: [i32; 15],
     pub hour: u8,
     // in cents per MWh
     pub cap: i32,
 }
 
+// A field of a row that has limits, in the order in which they are checked.
+#[derive(Clone, Copy, PartialEq, Eq, Debug)]
+pub enum Field {
+    Resource = 1,
+    SettlementPointPrice,
+    Generation,
+    Charging,
+    BasePoint,
+    Hour,
+    Cap,
+}
+
+impl Field {
+    // The field's number, from 1.
+    pub fn number(self) -> u8
+        ensures { result ≡ number_of self }
+    {
+        self as u8
+    }
+}
+
+impl fmt::Display for Field {
+    ghost output = { λ field. Some (name_of field) };
+
+    fn fmt<W: fmt::Write>(&self, f: &mut fmt::Formatter<W>) -> fmt::Result {
+        f.write_str(match self {
+            Field::Resource => "the resource",
+            Field::SettlementPointPrice => "the settlement point price",
+            Field::Generation => "the generation",
+            Field::Charging => "the charging",
+            Field::BasePoint => "a base point",
+            Field::Hour => "the hour",
+            Field::Cap => "the cap",
+        })
+    }
+}
+
 // Why a row gives no payment.
 #[derive(Clone, Copy, PartialEq, Eq, Debug)]
 pub enum RowFault {
-    // a field is outside its limits: the first one, by its number
-    Outside(u8),
+    // a field is outside its limits: the first one
+    Outside(Field),
     // there is no curve for the resource and hour, or one that its checks refuse
     NoCurve,
 }
@@ -39,13 +80,22 @@ impl RowFault {
         }
     }
 
-    // The field at fault, 0 where it is none.
+    // The number of the field at fault, 0 where it is none.
+    // Kept: a fault is told by two numbers, as the table of refusals lists them.
     pub fn field(&self) -> u8
         ensures { result ≡ field_of self.now }
     {
         match self {
-            RowFault::Outside(field) => *field,
+            RowFault::Outside(field) => field.number(),
             RowFault::NoCurve => 0,
         }
+    }
+}
+
+impl From<Field> for RowFault {
+    ghost from_gives = { λ first fault. fault ≡ Outside first };
+
+    fn from(first: Field) -> RowFault {
+        RowFault::Outside(first)
     }
 }

@@ -39,6 +39,10 @@ pub record OneAnswer (cs : List Check) (refused place : ℕ) : Type 0 where
   pub blocks : Refused cs refused place → Passed cs → ⊥
   pub alone : (number at : ℕ) → Refused cs refused place → Refused cs number at → (refused ≡ number) × (place ≡ at)
 
+-- what one check of the table answers: it passes, or its refusal tells its number and place
+abbrev pub Checked : {T E : Type 0} → (E → ℕ) → (E → ℕ) → Check → Result T E → Type 0
+Checked number_of place_of check answer = MatchResult answer (λ _. Passes check) (λ refusal. Refuses check (number_of refusal) (place_of refusal))
+
 -- what a call under a table of checks answers: its value, which means what it should, where every check passes; else the number and
 -- place of the first that does not
 abbrev pub Answered : {T E : Type 0} → List Check → (E → ℕ) → (E → ℕ) → (T → Type 0) → Result T E → Type 0

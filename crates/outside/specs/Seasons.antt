@@ -1,5 +1,6 @@
 -- A rule by the month: leftover in the months of a calendar, running in the others.
-use Rattle.std.specs.Prelude.{ℕ, Bool, true, false, cond, ◌||◌, List, ℤ, fold, ◌==◌}
+use Rattle.std.specs.Prelude.{ℕ, Bool, true, false, cond, List, ℤ, ◌==◌}
+use Rattle.std.specs.List.{list_any}
 use Rattle.sharing.specs.Rules.{Asked, Fair}
 use Rattle.sharing.specs.Running.{running}
 use Rattle.sharing.specs.RunningLaws.{running_fair}
@@ -8,7 +9,7 @@ use Rattle.sharing.specs.LeftoverLaws.{leftover_fair}
 
 -- the month is one of the calendar's
 abbrev pub listed : List ℕ → ℕ → Bool
-listed months month = fold (λ found m. found || m == month) false months
+listed months month = list_any (λ m. m == month) months
 
 -- the shares
 abbrev pub seasonal : Bool → ℤ → List ℕ → List ℤ

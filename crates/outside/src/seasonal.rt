@@ -16,11 +16,7 @@ pub struct Seasonal<'a> {
 fn is_listed(months: &[u8], month: u8) -> bool
     ensures { result ≡ listed months.now month }
 {
-    let mut found = false;
-    for m in months {
-        found = found | (*m == month);
-    }
-    found
+    months.contains(&month)
 }
 
 impl<'a> SharingRule for Seasonal<'a> {

@@ -27,12 +27,12 @@ impl Standby {
         requires last { n ≤ 65535 }
         ensures { result ≡ fee_line self.now n }
     {
-        let resource = self.first as usize + (n - 1);
-        if resource < 1 || resource > 9_999 {
+        let resource = usize::from(self.first) + (n - 1);
+        if !(1..=9_999).contains(&resource) {
             return Err(Fault::in_source(Cause::Own(90), n, 1));
         }
         let amount = weighed(self.rate, self.power);
-        if amount < -3_000_000_000 || amount > 3_000_000_000 {
+        if !(-3_000_000_000..=3_000_000_000).contains(&amount) {
             return Err(Fault::in_source(Cause::AmountBeyond, n, 0));
         }
         Ok((resource as u16, self.party, amount))
@@ -45,11 +45,11 @@ impl LineSource for Standby {
     ghost sound = { λ s. made_sound (fee_line s) s.count (fee_ranged s) };
 
     fn count(&self) -> usize {
-        self.count as usize
+        usize::from(self.count)
     }
 
     fn line(&self, n: usize) -> Result<(u16, u8, i64), Fault> {
-        if n < 1 || n > self.count as usize {
+        if !(1..=usize::from(self.count)).contains(&n) {
             return Err(Fault::no_line(n));
         }
         self.fee(n)

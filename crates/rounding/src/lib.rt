@@ -5,26 +5,27 @@ ghost use Rattle.std.specs.Prelude.{◌≡◌, ◌<◌};
 ghost use Rattle.rounding.specs.Nearest.{nearest_magnitude, nearest_to, Nearest, Pinned, Lawful};
 
 use numbers::with_sign;
+use std::cmp::Ordering;
 
 mod halves;
 
 // The nearest whole number to n / d.
+#[tactic(auto, using(crate::proofs::Magnitudes::below, crate::proofs::Magnitudes::above, crate::proofs::Magnitudes::level))]
 fn magnitude(n: u64, d: u64) -> u64
     requires { 0 < d }
     ensures { result ≡ nearest_magnitude n d }
 {
     let whole = n / d;
     let over = n % d;
-    if over < d - over {
-        whole
-    } else if over > d - over {
-        whole + 1
-    } else {
-        halves::from_half(whole)
+    match over.cmp(&(d - over)) {
+        Ordering::Less => whole,
+        Ordering::Greater => whole + 1,
+        Ordering::Equal => halves::from_half(whole),
     }
 }
 
 // The nearest whole number to n / d.
+#[tactic(auto, using(crate::proofs::Magnitudes::magnitude_le, crate::proofs::Laws::nearest_is, crate::proofs::Laws::nearest_only), unfolding(crate::specs::Nearest::nearest_to))]
 pub fn nearest(n: i64, d: u64) -> i64
     requires { 0 < d }
     ensures value { result ≡ nearest_to n d }

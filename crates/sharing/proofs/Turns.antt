@@ -15,16 +15,16 @@ less a c true = grind (arith, nat_tests)
 less a c false = omega arith
 
 -- what a turn of the loop computes
-module _ (m : ℕ) (loads : List ℕ) (i all left cent : ℕ) (h : i < length loads) (e : all ≡ sum loads)
+module _ (m : ℕ) (loads : List ℕ) (i load all left cent : ℕ) (h : i < length loads) (a : load ≡ get_or loads i 0) (e : all ≡ sum loads)
     (f : left ≡ missing m loads - count_by (broken m (sum loads)) (take i loads))
-    (g : cent ≡ cond (ltb 0 (m * get_or loads i 0 % all) && ltb 0 left) 1 0) where
-  pub turn_part : m * get_or loads i 0 / all + cent ≡ part m loads i
+    (g : cent ≡ cond (ltb 0 (m * load % all) && ltb 0 left) 1 0) where
+  pub turn_part : m * load / all + cent ≡ part m loads i
   unfolding part
-  turn_part = rw (g, f, e, some_left)
+  turn_part = rw (g, f, a, e, some_left)
 
   pub turn_left : left - cent ≡ missing m loads - count_by (broken m (sum loads)) (take (i + 1) loads)
   turn_left =
-      rw (sum_by_more (λ y. cond (broken m (sum loads) y) 1 0) loads i 0 h, g, f, e)
+      rw (sum_by_more (λ y. cond (broken m (sum loads) y) 1 0) loads i 0 h, g, f, a, e)
       (less (missing m loads) (count_by (broken m (sum loads)) (take i loads)) (broken m (sum loads) (get_or loads i 0)))
 
 -- the running shares

@@ -9,6 +9,7 @@ use crate::rule::SharingRule;
 use numbers::with_sign;
 
 // The cents that are missing once each exact share is taken down.
+// Kept: the three go together in this function alone; a struct for them would have one caller.
 fn missing_cents(magnitude: u64, loads: &[u32], all: u64) -> u64
     requires small { magnitude ≤ 5000000000 }
     requires each { AllByRecursion (λ x. x ≤ 20000000) loads.now }
@@ -17,8 +18,8 @@ fn missing_cents(magnitude: u64, loads: &[u32], all: u64) -> u64
     ensures { result ≡ missing magnitude loads.now }
 {
     let mut left = magnitude;
-    for x in loads {
-        left -= magnitude * *x as u64 / all;
+    for load in loads {
+        left -= magnitude * u64::from(*load) / all;
     }
     left
 }
@@ -27,11 +28,11 @@ fn missing_cents(magnitude: u64, loads: &[u32], all: u64) -> u64
 fn cent_for(rest: u64, left: u64) -> u64
     ensures { result ≡ (if nat_lt 0 rest && nat_lt 0 left then 1 else 0) }
 {
-    if rest > 0 && left > 0 { 1 } else { 0 }
+    u64::from(rest > 0 && left > 0)
 }
 
 // Each exact share is taken down, and the missing cents go one each to the first whose exact share was not whole.
-#[derive(Clone, Copy)]
+#[derive(Clone, Copy, PartialEq, Eq, Debug, Default)]
 pub struct Leftover;
 
 impl SharingRule for Leftover {
@@ -43,10 +44,11 @@ impl SharingRule for Leftover {
         let magnitude = total.unsigned_abs();
         let all = total_load(loads);
         let mut left = missing_cents(magnitude, loads, all);
-        for i in 0..loads.len() {
-            let exact = magnitude * loads[i] as u64;
+        // Kept: a share is written by its place, as in the running rule.
+        for (place, load) in loads.iter().enumerate() {
+            let exact = magnitude * u64::from(*load);
             let cent = cent_for(exact % all, left);
-            shares[i] = with_sign(total, exact / all + cent);
+            shares[place] = with_sign(total, exact / all + cent);
             left -= cent;
         }
     }

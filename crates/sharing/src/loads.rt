@@ -6,9 +6,9 @@ pub fn total_load(loads: &[u32]) -> u64
     requires { length loads.now ≤ 2 ^ 32 }
     ensures { result ≡ sum loads.now }
 {
-    let mut all: u64 = 0;
-    for x in loads {
-        all += *x as u64;
+    let mut all = 0;
+    for load in loads {
+        all += u64::from(*load);
     }
     all
 }

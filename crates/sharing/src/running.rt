@@ -7,7 +7,7 @@ use crate::rule::SharingRule;
 use numbers::with_sign;
 
 // A share is what the loads up to and with this one come to, less the same without this one.
-#[derive(Clone, Copy)]
+#[derive(Clone, Copy, PartialEq, Eq, Debug, Default)]
 pub struct Running;
 
 impl SharingRule for Running {
@@ -18,12 +18,13 @@ impl SharingRule for Running {
     fn share(&self, total: i64, loads: &[u32], shares: &mut [i64]) {
         let magnitude = total.unsigned_abs();
         let all = total_load(loads);
-        let mut before: u64 = 0;
-        let mut given: u64 = 0;
-        for i in 0..loads.len() {
-            before += loads[i] as u64;
+        let mut before = 0;
+        let mut given = 0;
+        // Kept: a share is written by its place, since what a zip over the shares has written is not known after it.
+        for (place, load) in loads.iter().enumerate() {
+            before += u64::from(*load);
             let up_to = magnitude * before / all;
-            shares[i] = with_sign(total, up_to - given);
+            shares[place] = with_sign(total, up_to - given);
             given = up_to;
         }
     }

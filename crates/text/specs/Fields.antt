@@ -1,5 +1,5 @@
 -- The fields of a line. While they are read, what is left of the line is nothing, or a comma with the next field behind it.
-use Rattle.std.specs.Prelude.{ℕ, Bool, true, false, cond, not, List, [], ◌∷◌, Some, None, Option, ◌==◌}
+use Rattle.std.specs.Prelude.{◌≡◌, ℕ, ◌+◌, length, Bool, true, false, cond, not, List, [], ◌∷◌, Some, None, Option, ◌==◌}
 use Rattle.text.specs.Text.{front, past, trimmed, cut}
 
 -- what separates fields
@@ -29,3 +29,8 @@ next_rest (c ∷ s) = past in_field s
 abbrev pub moved : Bool → List ℕ → List ℕ
 moved true s = next_rest s
 moved false s = s
+
+-- The next field was read, and one field fewer is left; or it was not, and it stays.
+pub record Passes (read : Bool) (before after : List ℕ) : Type 0 where
+  pub rest : after ≡ moved read before
+  pub count : read ≡ true → length (left before) ≡ 1 + length (left after)

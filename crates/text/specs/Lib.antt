@@ -3,4 +3,3 @@ pub mod Lines
 pub mod Numbers
 pub mod Fields
 pub mod Lists
-pub mod Begins

@@ -1,29 +1,14 @@
 // The answers' text, gathered in one buffer and handed on in large pieces.
-ghost use Rattle.std.specs.Prelude.{◌≡◌, ◌+◌, ◌^◌, ◌<◌, ◌≤◌, true, [], ◌++◌, length, drop, is_ok, if◌then◌else◌, vec_len, vec_capacity, decimal};
-ghost use Rattle.std.specs.Fmt.{sign_text, signed_decimal};
+ghost use Rattle.std.specs.Prelude.{◌≡◌, ◌+◌, ◌≤◌, true, [], ◌++◌, length, is_ok, if◌then◌else◌, vec_len, vec_capacity, decimal, Some, IfOk, IsOk, OnOk, OnErr};
+ghost use Rattle.std.specs.Fmt.{signed_decimal, AppendsText};
+ghost use Rattle.std.specs.Io.{WritesAtMost};
+ghost use Rattle.std.specs.Io.KnownBytes.{Keeps, WriteAppends};
 
+use itoa::Buffer;
 use std::alloc::{AllocError, Global};
-
-// The places that the digits of any number of 64 bits take, a minus included.
-const PLACES: usize = 20;
-
-// Writes the digits of the number at the end of the places; where they begin.
-fn spell(n: u64, places: &mut [u8]) -> usize
-    requires { length places.old ≡ 20 }
-    ensures digits { drop result places.new ≡ decimal n }
-    ensures within { result < 20 }
-{
-    let mut at = PLACES;
-    let mut front = n;
-    while front >= 10 && at > 1 {
-        at -= 1;
-        places[at] = (front % 10) as u8 + b'0';
-        front /= 10;
-    }
-    at -= 1;
-    places[at] = (front % 10) as u8 + b'0';
-    at
-}
+use std::fmt::Display;
+use std::io;
+use std::io::Write;
 
 // A text of answers. What finds no memory leaves it as it is.
 #[derive(Drop)]
@@ -48,29 +33,12 @@ impl Answers {
         self.text.extend_from_slice(words)
     }
 
-    // Puts a minus, if there is one, and the digits of the magnitude.
-    fn spelled(&mut self, negative: bool, n: u64, places: &mut [u8]) -> Result<(), AllocError>
-        requires size { length places.old ≡ 20 }
-        requires fits { negative ≡ true → n < 10 ^ 19 }
-        ensures items { self.new.text.items ≡ (if is_ok result then self.old.text.items ++ (sign_text negative ++ decimal n) else self.old.text.items) }
-        ensures room { vec_len self.old.text + length (sign_text negative ++ decimal n) ≤ vec_capacity self.old.text → is_ok result ≡ true }
-    {
-        let at = spell(n, places);
-        if negative {
-            let first = at - 1;
-            places[first] = b'-';
-            self.put(&places[first..])
-        } else {
-            self.put(&places[at..])
-        }
-    }
-
     // Puts the digits of the number.
     pub fn number(&mut self, n: u64) -> Result<(), AllocError>
         ensures items { self.new.text.items ≡ (if is_ok result then self.old.text.items ++ decimal n else self.old.text.items) }
         ensures room { vec_len self.old.text + length (decimal n) ≤ vec_capacity self.old.text → is_ok result ≡ true }
     {
-        self.spelled(false, n, &mut [b'0'; PLACES])
+        self.put(Buffer::new().format(n).as_bytes())
     }
 
     // Puts the digits of the number's magnitude, a minus before them where it is negative.
@@ -78,7 +46,19 @@ impl Answers {
         ensures items { self.new.text.items ≡ (if is_ok result then self.old.text.items ++ signed_decimal z else self.old.text.items) }
         ensures room { vec_len self.old.text + length (signed_decimal z) ≤ vec_capacity self.old.text → is_ok result ≡ true }
     {
-        self.spelled(z < 0, z.unsigned_abs(), &mut [b'0'; PLACES])
+        self.put(Buffer::new().format(z).as_bytes())
+    }
+
+    // What `write!` and `writeln!` call.
+    pub fn write_fmt<D: Display + Drop>(&mut self, words: D) -> Result<(), AllocError>
+        ensures items { OnOk result (AppendsText self.old.text.items self.new.text.items (D.output words)) }
+    {
+        let whole = self.text.len();
+        if Write::write_fmt(self, words).is_err() {
+            self.text.truncate(whole);
+            return Err(AllocError);
+        }
+        Ok(())
     }
 
     // Makes the text empty.
@@ -86,5 +66,27 @@ impl Answers {
         ensures { self.new.text.items ≡ [] }
     {
         self.text.clear();
+    }
+}
+
+// A writer that takes all the bytes of each call, or, where there is no memory for them, none.
+impl Write for Answers {
+    ghost contents = { λ a. Some a.text.items };
+
+    fn write(&mut self, words: &[u8]) -> io::Result<usize>
+        ensures bound { WritesAtMost result words.now }
+        ensures bytes { WriteAppends (Some self.old.text.items) (Some self.new.text.items) result words.now }
+        ensures whole { IfOk result (λ n. n ≡ length words.now) }
+        ensures unchanged { OnErr result (self.new.text.items ≡ self.old.text.items) }
+    {
+        self.put(words)?;
+        Ok(words.len())
+    }
+
+    fn flush(&mut self) -> io::Result<()>
+        ensures bytes { Keeps (Some self.old.text.items) (Some self.new.text.items) }
+        ensures ok { IsOk result }
+    {
+        Ok(())
     }
 }

@@ -1,32 +1,40 @@
 // Lists of numbers in a field.
-ghost use Rattle.std.specs.Prelude.{◌≡◌, ◌+◌, true, map, length, is_ok, IfOk, vec_len, vec_capacity};
-ghost use Rattle.text.specs.Text.{front, past, trimmed, cut, and_then};
-ghost use Rattle.text.specs.Fields.{in_field, left, next_text, moved};
-ghost use Rattle.text.specs.Lists.{semicolon, numbers_in, list_in, ListRead};
+ghost use Rattle.std.specs.Prelude.{◌≡◌, ◌<◌, [], ◌∷◌, length, is_ok, MatchOption, vec_len, vec_capacity};
+ghost use Rattle.text.specs.Text.{cut, and_then};
+ghost use Rattle.text.specs.Fields.{next_text, Passes};
+ghost use Rattle.text.specs.Lists.{semicolon, list_in, ListRead};
 
+use crate::blanks;
 use crate::fields::{Fault, Fields};
-use crate::numbers::Number;
-use crate::{blanks, fields};
+use crate::numbers::{Number, number_in};
+use memchr::memchr;
 
-// The numbers of a list, up to the field's end; what follows them.
-fn items<'t, T: Number>(field: u32, text: &'t [u8], into: &mut Vec<T>) -> Result<&'t [u8], Fault>
-    ensures value { ListRead (numbers_in T.Number.kind (map trimmed (cut semicolon (front in_field text.now)))) field (vec_capacity into.old) into.old.items into.new.items (vec_len into.new) result }
-    ensures rest { IfOk result (λ t. t.now ≡ past in_field text.now) }
+// The text up to the first semicolon, and what stands behind that, if there is one.
+fn first_item(text: &[u8]) -> (&[u8], Option<&[u8]>)
+    ensures { MatchOption result.1 (cut semicolon text.now ≡ result.0.now ∷ []) (λ others. (cut semicolon text.now ≡ result.0.now ∷ cut semicolon others.now) × (length others.now < length text.now)) }
 {
-    let mut line = text;
-    loop {
-        let Some((number, rest)) = fields::number_between(line) else {
-            return Err(Fault::Malformed(field));
-        };
-        into.push(number)?;
-        if fields::at_end(rest) {
-            return Ok(rest);
-        }
-        if !blanks::starts(rest, b';') {
-            return Err(Fault::Malformed(field));
-        }
-        line = &rest[1..];
+    match memchr(b';', text) {
+        Some(n) => (&text[..n], Some(&text[n + 1..])),
+        None => (text, None),
     }
+}
+
+// Puts the numbers of the list that the field's text writes behind those of `into`.
+fn read_list<T: Number>(field: u32, text: &[u8], into: &mut Vec<T>) -> Result<(), Fault>
+    ensures { ListRead (list_in T.Number.kind text.now) field (vec_capacity into.old) into.old.items into.new.items (vec_len into.new) result }
+{
+    if text.is_empty() {
+        return Ok(());
+    }
+    // Kept: a `for` over `split` gets no proof in a function with a type parameter.
+    let mut left = Some(text);
+    while let Some(items) = left {
+        let (item, others) = first_item(items);
+        let number = number_in(blanks::trimmed(item)).ok_or(Fault::Malformed(field))?;
+        into.push(number)?;
+        left = others;
+    }
+    Ok(())
 }
 
 impl<'t> Fields<'t> {
@@ -34,18 +42,12 @@ impl<'t> Fields<'t> {
     // `into` holds what was read before the fault.
     pub fn list<T: Number>(&mut self, field: u32, into: &mut Vec<T>) -> Result<(), Fault>
         ensures value { ListRead (and_then (next_text self.old.rest.now) (list_in T.Number.kind)) field (vec_capacity into.old) into.old.items into.new.items (vec_len into.new) result }
-        ensures after { self.new.rest.now ≡ moved (is_ok result) self.old.rest.now }
-        ensures count { is_ok result ≡ true → length (left self.old.rest.now) ≡ 1 + length (left self.new.rest.now) }
+        ensures passes { Passes (is_ok result) self.old.rest.now self.new.rest.now }
     {
-        if self.pass_empty() {
-            return Ok(());
-        }
-        let rest = self.rest;
-        if !blanks::starts(rest, b',') {
-            return Err(Fault::Malformed(field));
-        }
-        let after = items(field, &rest[1..], into)?;
-        self.rest = after;
+        let mut behind = *self;
+        let text = behind.text().ok_or(Fault::Malformed(field))?;
+        read_list(field, text, into)?;
+        *self = behind;
         Ok(())
     }
 }

@@ -2,6 +2,7 @@
 use crate::answers::Answers;
 use crate::fields::{Fault, Fields};
 use crate::{lines, numbers};
+use std::io::Write;
 use std::test::Fail;
 
 #[test]
@@ -72,5 +73,16 @@ fn answers_in_a_row(rt: HostRuntime) -> Result<(), Fail> {
     out.clear();
     out.signed(70)?;
     assert!(rt; out.text.as_slice() == b"70".as_slice());
+    Ok(())
+}
+
+#[test]
+fn answers_written(rt: HostRuntime) -> Result<(), Fail> {
+    let mut out = Answers::new(rt.alloc());
+    let kind = "emr";
+    write!(out, "{}: {kind} at {}", 12u64, -7i64)?;
+    out.write_all(b"\n")?;
+    writeln!(out, "{}", u32::MAX)?;
+    assert!(rt; out.text.as_slice() == b"12: emr at -7\n4294967295\n".as_slice());
     Ok(())
 }

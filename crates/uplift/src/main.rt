@@ -11,18 +11,16 @@ use text::answers::Answers;
 
 // The bytes of the text that is to be priced.
 fn input(rt: &HostRuntime) -> io::Result<Vec<u8>> {
-    let mut args = env::args(rt)?;
-    args.next();
-    match args.next() {
-        None => Ok(Vec::from_slice(rt.alloc(), SAMPLE.as_bytes())?),
-        Some(path) => {
-            if path.as_str() == "-" {
-                let mut bytes = Vec::new(rt.alloc());
-                rt.stdin().read_to_end(&mut bytes)?;
-                return Ok(bytes);
-            }
-            fs::read(rt, path.as_str())
+    let Some(path) = env::args(rt)?.nth(1) else {
+        return Ok(Vec::from_slice(rt.alloc(), SAMPLE.as_bytes())?);
+    };
+    match path.as_str() {
+        "-" => {
+            let mut bytes = Vec::new(rt.alloc());
+            rt.stdin().read_to_end(&mut bytes)?;
+            Ok(bytes)
         }
+        path => fs::read(rt, path),
     }
 }
 
@@ -37,12 +35,8 @@ fn work(rt: &HostRuntime) -> io::Result<Tally> {
 // The status is 1 where the text could not be read or a record was malformed.
 fn main(rt: HostRuntime) -> io::Result<ExitCode> {
     match work(&rt) {
-        Ok(tally) => {
-            if tally.malformed > 0 {
-                return Ok(ExitCode::FAILURE);
-            }
-            Ok(ExitCode::SUCCESS)
-        }
+        Ok(tally) if tally.malformed == 0 => Ok(ExitCode::SUCCESS),
+        Ok(_) => Ok(ExitCode::FAILURE),
         Err(e) => {
             eprintln!(rt; "uplift: {e}")?;
             Ok(ExitCode::FAILURE)

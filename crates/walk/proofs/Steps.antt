@@ -54,7 +54,7 @@ sum_next : (f : Line → ℤ) (ls : List Line) (k : ℕ) (l : Line) → k < leng
 sum_next f ls k l h e = signed_sum_more f ls k (no_line (k + 1)) h ∙ ap (λ x. signed_sum f (take k ls) +ℤ f x) (sym (e ∙ line_at_next ls k))
 
 -- what the test of an entry tells
-pub fits_tells : (n before : ℕ) (e : Entry) → fits n before e ≡ true → (1 ≤ e.1) × (e.1 ≤ n) × (before < e.0)
+fits_tells : (n before : ℕ) (e : Entry) → fits n before e ≡ true → (1 ≤ e.1) × (e.1 ≤ n) × (before < e.0)
 fits_tells n before e t =
     let a = and_parts (leb 1 e.1 && leb e.1 n) (ltb before e.0) t in
     let b = and_parts (leb 1 e.1) (leb e.1 n) a.0 in
@@ -71,7 +71,7 @@ entry_line n before k (Ok x) e h = ⊎_elim
     (cases_Bool (fits n before x))
 entry_line n before k (Err f) e h = absurd (let z : ◌≡◌ {A = ℕ} 0 1 = cc in omega arith)
 
-pub entry_known : {ls : List Line} → Sound ls → (n before k : ℕ) (e : Entry) → Ok e ≡ fitting n before k (line_at ls k) → (Ok e ≡ line_at ls k) × (fits n before e ≡ true) × (nat_abs e.2 ≤ 3000000000)
+entry_known : {ls : List Line} → Sound ls → (n before k : ℕ) (e : Entry) → Ok e ≡ fitting n before k (line_at ls k) → (Ok e ≡ line_at ls k) × (fits n before e ≡ true) × (nat_abs e.2 ≤ 3000000000)
 entry_known {ls} s n before k e h =
     let is = entry_line n before k (line_at ls k) e h in
     (sym is.0, is.1, (entry_ranged s k e (sym is.0)).2)
@@ -117,7 +117,7 @@ line_small : (ls : List Line) → Sound ls → (k : ℕ) (l : Line) → l ≡ li
 line_small ls s k (Ok e) at = (entry_ranged s (k + 1) e at).2
 line_small ls s k (Err f) at = omega (arith, ints)
 
-pub part_small : (p k : ℕ) (ls : List Line) → Sound ls → k ≤ length ls → nat_abs (sum_for p (take k ls)) ≤ k * 3000000000
+part_small : (p k : ℕ) (ls : List Line) → Sound ls → k ≤ length ls → nat_abs (sum_for p (take k ls)) ≤ k * 3000000000
 part_small p zero ls s h = let z = none_yet (amount_for p) ls in omega (arith, ints)
 part_small p (suc k) ls s h =
     let rest = part_small p k ls s (omega arith) in
@@ -125,7 +125,7 @@ part_small p (suc k) ls s h =
     let one = for_small p (line_at ls (k + 1)) (line_small ls s k (line_at ls (k + 1)) refl) in
     rw (← add-one k) (omega (arith, ints, rest, next, one))
 
-pub small_fits : (z : ℤ) → nat_abs z ≤ 1000000000000 → SFits w64 z
+small_fits : (z : ℤ) → nat_abs z ≤ 1000000000000 → SFits w64 z
 small_fits (pos n) h = record { sfits = omega arith }
 small_fits (negsuc n) h = record { sfits = omega arith }
 
@@ -133,7 +133,7 @@ abs_add : (a b : ℤ) (x y : ℕ) → nat_abs a ≤ x → nat_abs b ≤ y → na
 abs_add a b x y h k = omega (arith, ints)
 
 -- one fit line on
-pub walk_step : {n : ℕ} {ls : List Line} {k before : ℕ} {total : ℤ} {paid : List ℤ} → Walk n ls k before total paid → k < length ls → (e : Entry) → Ok e ≡ line_at ls (k + 1) → fits n before e ≡ true → nat_abs e.2 ≤ 3000000000
+walk_step : {n : ℕ} {ls : List Line} {k before : ℕ} {total : ℤ} {paid : List ℤ} → Walk n ls k before total paid → k < length ls → (e : Entry) → Ok e ≡ line_at ls (k + 1) → fits n before e ≡ true → nat_abs e.2 ≤ 3000000000
     → Walk n ls (k + 1) e.0 (total +ℤ e.2) (set paid (e.1 - 1) (get_or paid (e.1 - 1) (pos 0) +ℤ e.2))
 walk_step {n} {ls} {k} {before} {total} {paid} w lt e at fit small =
     let who = fits_tells n before e fit in
@@ -162,16 +162,6 @@ walk_step {n} {ls} {k} {before} {total} {paid} w lt e at fit small =
       bound = omega (arith, abs_add total e.2 (k * 3000000000) 3000000000 w.bound small);
     }
 
-pub walk_like : {n : ℕ} {ls : List Line} {k before : ℕ} {t u : ℤ} {p q : List ℤ} → Walk n ls k before t p → u ≡ t → q ≡ p → Walk n ls k before u q
-walk_like {n} {ls} {k} {before} {t} {u} {p} {q} w e f = subst (λ z. Walk n ls k before z q) (sym e) (subst (Walk n ls k before t) (sym f) w)
-
--- the total and one amount more fit
-pub walk_near : {n : ℕ} {ls : List Line} {k before : ℕ} {t : ℤ} {p : List ℤ} → Walk n ls k before t p → (a b : ℤ) → b ≡ a → nat_abs a ≤ 3000000000 → k < 256 → SFits w64 (t +ℤ b)
-walk_near {k = k} {t = t} w a b e h lt = subst (λ z. SFits w64 (t +ℤ z)) (sym e) (small_fits (t +ℤ a) (omega (arith, abs_add t a (k * 3000000000) 3000000000 w.bound h)))
-
-pub walk_added : {n : ℕ} {ls : List Line} {k before : ℕ} {t : ℤ} {p : List ℤ} → Walk n ls k before t p → (a b : ℤ) → b ≡ a → nat_abs a ≤ 3000000000 → k < 256 → to_z w64 (of_z w64 (t +ℤ b)) ≡ t +ℤ a
-walk_added {t = t} w a b e h lt = to_z-of_z w64 (t +ℤ b) (walk_near w a b e h lt) ∙ ap (λ z. t +ℤ z) e
-
 -- at the end every line was fit, and the sums are whole
 pub walk_end : {n : ℕ} {ls : List Line} {k before : ℕ} {total : ℤ} {paid : List ℤ} → Walk n ls k before total paid → k ≡ length ls → length ls ≤ 256 → (Ok total ≡ walked n ls) × AllFit n ls × (paid ≡ party_sums n ls)
 walk_end {n} {ls} {k} {before} {total} {paid} w all few =
@@ -188,3 +178,44 @@ walk_end {n} {ls} {k} {before} {total} {paid} w all few =
 
 pub too_many : (n : ℕ) (ls : List Line) → 256 < length ls → Err ManyLines ≡ walked n ls
 too_many n ls h = rw (lt-ltb 256 (length ls) h)
+
+-- line n, as it was answered and added up
+module _ {m n before : ℕ} {ls : List Line} {t : ℤ} {paid : List ℤ} (s : Sound ls) (few : length ls ≤ 256) (w : Walk m ls (n - 1) before t paid) (low : 1 ≤ n) (high : n ≤ length ls) where
+  counted : n - 1 + 1 ≡ n
+  counted = omega arith
+
+  pub line_flaw : (flaw : Flaw) → Err flaw ≡ fitting m before n (line_at ls n) → (Err flaw ≡ walked m ls) × Flawed m ls flaw
+  line_flaw flaw h = walk_flaw w (omega arith) few flaw (subst (λ j. Err flaw ≡ fitting m before j (line_at ls j)) (sym counted) h)
+
+  module _ (r p at : ℕ) (a : ℤ) (ok : Ok (r, p, a) ≡ fitting m before n (line_at ls n)) (whole : SFits w64 a) (same : at ≡ p) where
+    known : (Ok (r, p, a) ≡ line_at ls n) × (fits m before (r, p, a) ≡ true) × (nat_abs a ≤ 3000000000)
+    known = entry_known s m before n (r, p, a) ok
+
+    party_near : (1 ≤ p) × (p ≤ m)
+    party_near = let h = fits_tells m before (r, p, a) known.1 in (h.0, h.1)
+
+    part_whole : nat_abs (get_or paid (at - 1) (pos 0)) ≤ 1000000000000
+    part_whole =
+        let part = part_small p (n - 1) ls s (omega arith) in
+        let is = w.parts p party_near.0 party_near.1 in
+        rw same (rw is (omega (arith, part)))
+
+    kept : to_z w64 (of_z w64 (get_or paid (at - 1) (pos 0))) +ℤ to_z w64 (of_z w64 a) ≡ get_or paid (at - 1) (pos 0) +ℤ a
+    kept = let h = small_fits (get_or paid (at - 1) (pos 0)) part_whole in simp (to_z-of_z)
+
+    pub part_near : SFits w64 (to_z w64 (of_z w64 (get_or paid (at - 1) (pos 0))) +ℤ to_z w64 (of_z w64 a))
+    part_near = rw kept (let h = part_whole in let k = known.2 in omega (arith, ints))
+
+    pub total_near : SFits w64 (t +ℤ to_z w64 (of_z w64 a))
+    total_near = rw (to_z-of_z w64 a whole) (small_fits (t +ℤ a) (omega (arith, abs_add t a ((n - 1) * 3000000000) 3000000000 w.bound known.2)))
+
+    pub line_on : (j : ℕ) → j ≡ n → Walk m ls j r (to_z w64 (of_z w64 (t +ℤ to_z w64 (of_z w64 a)))) (set paid (at - 1) (to_z w64 (of_z w64 (to_z w64 (of_z w64 (get_or paid (at - 1) (pos 0))) +ℤ to_z w64 (of_z w64 a)))))
+    line_on j e =
+        let total = to_z-of_z w64 _ total_near ∙ ap (λ z. t +ℤ z) (to_z-of_z w64 a whole) in
+        let part = to_z-of_z w64 _ part_near ∙ kept in
+        let on = walk_step w (omega arith) (r, p, a) (subst (λ i. Ok (r, p, a) ≡ line_at ls i) (sym counted) known.0) known.1 known.2 in
+        rw (e, ← counted, total, part, same) on
+
+    -- and after the last line
+    pub last_line : n ≡ length ls → let total = to_z w64 (of_z w64 (t +ℤ to_z w64 (of_z w64 a))) in let sums = set paid (at - 1) (to_z w64 (of_z w64 (to_z w64 (of_z w64 (get_or paid (at - 1) (pos 0))) +ℤ to_z w64 (of_z w64 a)))) in (Ok total ≡ walked m ls) × AllFit m ls × (sums ≡ party_sums m ls)
+    last_line e = walk_end (line_on n refl) e few

@@ -1,8 +1,8 @@
 // What keeps a source's lines from being settled.
-ghost use Rattle.std.specs.Prelude.{◌≡◌};
 ghost use Rattle.walk.specs.Flaws.{number_of, place_of};
 
 use charges::fault::Fault;
+use numbers::numbered::Numbered;
 
 #[derive(Clone, Copy, PartialEq, Eq, Debug)]
 pub enum Flaw {
@@ -14,11 +14,12 @@ pub enum Flaw {
     Unfit(usize),
 }
 
-impl Flaw {
-    // The refusal's number.
-    pub fn number(&self) -> u8
-        ensures { result ≡ number_of self.now }
-    {
+impl Numbered for Flaw {
+    ghost numbered = { number_of };
+
+    ghost placed = { place_of };
+
+    fn number(&self) -> u8 {
         match self {
             Flaw::ManyLines => 34,
             Flaw::Faulty { .. } => 35,
@@ -27,13 +28,10 @@ impl Flaw {
     }
 
     // The line at fault, 0 for the whole source.
-    pub fn place(&self) -> usize
-        ensures { result ≡ place_of self.now }
-    {
+    fn place(&self) -> usize {
         match *self {
             Flaw::ManyLines => 0,
-            Flaw::Faulty { line, .. } => line,
-            Flaw::Unfit(line) => line,
+            Flaw::Faulty { line, .. } | Flaw::Unfit(line) => line,
         }
     }
 }

@@ -1,5 +1,5 @@
 // One pass over a source's lines: each is asked for once, checked and added up.
-ghost use Rattle.std.specs.Prelude.{◌≡◌, ◌-◌, ◌≤◌, length, replicate, pos, ◌+ℤ◌, MatchResult, OnOk, slice_index_or, slice_set, unsigned_abs};
+ghost use Rattle.std.specs.Prelude.{◌≡◌, length, MatchResult, OnOk};
 ghost use Rattle.charges.specs.Lines.{line_at};
 ghost use Rattle.walk.specs.Flaws.{fits, fitting, walked, AllFit, Flawed};
 ghost use Rattle.walk.specs.Totals.{party_sums};
@@ -11,7 +11,8 @@ use charges::interface::LineSource;
 fn is_fit(parties: usize, before: u16, entry: (u16, u8, i64)) -> bool
     ensures { result ≡ fits parties before entry }
 {
-    entry.1 >= 1 && entry.1 as usize <= parties && entry.0 > before
+    let (resource, party, _) = entry;
+    (1..=parties).contains(&usize::from(party)) && resource > before
 }
 
 // The entry of line n, or how the line is flawed.
@@ -23,29 +24,13 @@ fn fit_entry<S: LineSource>(
 ) -> Result<(u16, u8, i64), Flaw>
     ensures { result ≡ fitting parties before n (line_at (S.LineSource.lines source.now) n) }
 {
-    match source.line(n) {
-        Ok(entry) if is_fit(parties, before, entry) => Ok(entry),
-        Ok(_) => Err(Flaw::Unfit(n)),
-        Err(fault) => Err(Flaw::Faulty { line: n, fault }),
+    let entry = source
+        .line(n)
+        .map_err(|fault| Flaw::Faulty { line: n, fault })?;
+    if !is_fit(parties, before, entry) {
+        return Err(Flaw::Unfit(n));
     }
-}
-
-fn clear(amounts: &mut [i64])
-    ensures { amounts.new ≡ replicate (length amounts.old) (pos 0) }
-{
-    amounts.fill(0);
-}
-
-// Adds an entry's amount to its party's.
-fn add(paid: &mut [i64], entry: (u16, u8, i64))
-    requires first { 1 ≤ entry.1 }
-    requires last { entry.1 ≤ length paid.old }
-    requires sum { unsigned_abs (slice_index_or paid.old (entry.1 - 1) (pos 0)) ≤ 1000000000000 }
-    requires small { unsigned_abs entry.2 ≤ 3000000000 }
-    ensures { paid.new ≡ slice_set paid.old (entry.1 - 1) (slice_index_or paid.old (entry.1 - 1) (pos 0) +ℤ entry.2) }
-{
-    let at = entry.1 as usize - 1;
-    paid[at] += entry.2;
+    Ok(entry)
 }
 
 // The total of all amounts, with each party's sum in `paid`, which has one place for each party. A flaw leaves sums that the caller drops.
@@ -59,14 +44,14 @@ pub fn walk<S: LineSource>(source: &S, paid: &mut [i64]) -> Result<i64, Flaw>
         return Err(Flaw::ManyLines);
     }
     let parties = paid.len();
-    clear(paid);
-    let mut total: i64 = 0;
-    let mut before: u16 = 0;
-    for k in 0..count {
-        let entry = fit_entry(source, parties, before, k + 1)?;
-        add(paid, entry);
-        total += entry.2;
-        before = entry.0;
+    paid.fill(0);
+    let mut total = 0;
+    let mut before = 0;
+    for n in 1..=count {
+        let (resource, party, amount) = fit_entry(source, parties, before, n)?;
+        paid[usize::from(party) - 1] += amount;
+        total += amount;
+        before = resource;
     }
     Ok(total)
 }

@@ -1,6 +1,6 @@
 // Opening a book over two lent tables.
-ghost use Rattle.std.specs.Prelude.{◌≡◌, ℕ, ◌+◌, ◌*◌, ◌≤◌, length};
-ghost use Rattle.book.specs.Books.{model, Opens, ClearsSlots, ClearsEntries};
+ghost use Rattle.std.specs.Prelude.{◌≡◌};
+ghost use Rattle.book.specs.Books.{model, Opens};
 ghost use Rattle.book.specs.Model.{means};
 
 use super::Book;
@@ -26,7 +26,7 @@ impl<'a> Book<'a> {
     pub fn open(&mut self, parties: usize, intervals: usize) -> Result<(), Refusal>
         ensures { Opens parties intervals self.old result self.new }
     {
-        if parties < 1 || parties > 64 || intervals < 1 || intervals > 100 {
+        if !(1..=64).contains(&parties) || !(1..=100).contains(&intervals) {
             return Err(Refusal::Size);
         }
         let slots = 3 * intervals;
@@ -34,34 +34,10 @@ impl<'a> Book<'a> {
         if self.slots.len() < slots || self.entries.len() < entries {
             return Err(Refusal::Size);
         }
-        self.clear_slots(slots);
-        self.clear_entries(0, entries);
+        self.slots[..slots].fill(Slot { stands: false });
+        self.entries[..entries].fill(Entry::default());
         self.parties = parties;
         self.intervals = intervals;
         Ok(())
-    }
-
-    // Clears the first n slots.
-    fn clear_slots(&mut self, n: usize)
-        requires { n ≤ length self.old.slots.now }
-        ensures { ClearsSlots n self.old self.new }
-    {
-        for k in 0..n {
-            self.slots[k] = Slot { stands: false };
-        }
-    }
-
-    // Clears n entries from a place on.
-    pub(super) fn clear_entries(&mut self, from: usize, n: usize)
-        requires { from + n ≤ length self.old.entries.now }
-        ensures { ClearsEntries from n self.old self.new }
-    {
-        for k in 0..n {
-            self.entries[from + k] = Entry {
-                load: 0,
-                paid: 0,
-                charged: 0,
-            };
-        }
     }
 }

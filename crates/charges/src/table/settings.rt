@@ -1,10 +1,11 @@
 // What a table holds, and how that is changed.
-ghost use Rattle.std.specs.Prelude.{◌≡◌, ◌≤◌, is_some, Decides, unsigned_abs};
-ghost use Rattle.charges.specs.Table.{first_at, own_place, place_for};
+ghost use Rattle.std.specs.Prelude.{◌≡◌, ◌≤◌, is_some, IfSome, position, Decides, unsigned_abs};
+ghost use Rattle.charges.specs.Table.{has_resource, is_free, figure_at, place_for};
 ghost use Rattle.charges.specs.Refusals.{InRange};
 ghost use Rattle.charges.specs.Settings.{held_by, figure_in, nothing, size_of, WasSet, WasRemoved};
 
-use crate::figure::{FREE, Figure};
+use crate::figure::Figure;
+use crate::limits::{LAST_RESOURCE, MOST_FIGURE, PLACES};
 use crate::setting::SettingRefusal;
 use crate::table::Table;
 
@@ -12,7 +13,7 @@ use crate::table::Table;
 fn is_in_range(resource: u16, figure: i64) -> bool
     ensures { Decides result (InRange resource figure) }
 {
-    resource >= 1 && resource <= 9_999 && figure >= -1_000_000_000 && figure <= 1_000_000_000
+    (1..=LAST_RESOURCE).contains(&resource) && figure.unsigned_abs() <= MOST_FIGURE
 }
 
 impl Table {
@@ -21,54 +22,56 @@ impl Table {
         ensures none { held_by result ≡ nothing }
         ensures size { size_of result ≡ 0 }
     {
-        Table { rows: [FREE; 32] }
-    }
-
-    // The first place with the number, or 32.
-    fn place(&self, resource: u16) -> usize
-        ensures { result ≡ first_at self.now.rows resource }
-    {
-        for i in 0..32 {
-            if self.rows[i].resource == resource {
-                return i;
-            }
-        }
-        32
-    }
-
-    // The place that holds the resource, or 32.
-    fn own_place(&self, resource: u16) -> usize
-        ensures { result ≡ own_place self.now.rows resource }
-    {
-        if resource > 0 {
-            self.place(resource)
-        } else {
-            32
+        Table {
+            rows: [None; PLACES],
         }
     }
 
-    // The place where a resource is to be held: its own, or else a free one, or 32.
-    fn place_for(&self, resource: u16) -> usize
+    // The place that holds the resource, if one does.
+    fn place(&self, resource: u16) -> Option<usize>
+        ensures { result ≡ position (has_resource resource) self.now.rows }
+    {
+        self.rows
+            .iter()
+            .position(|row| row.is_some_and(|held| held.resource == resource))
+    }
+
+    // The first free place, if there is one.
+    fn free_place(&self) -> Option<usize>
+        ensures { result ≡ position is_free self.now.rows }
+    {
+        self.rows.iter().position(Option::is_none)
+    }
+
+    // The place where a resource is to be held: its own, or else a free one.
+    fn place_for(&self, resource: u16) -> Option<usize>
         ensures { result ≡ place_for self.now.rows resource }
     {
-        let own = self.place(resource);
-        if own < 32 { own } else { self.place(0) }
+        self.place(resource).or_else(|| self.free_place())
+    }
+
+    // What is held for the resource, if it is held.
+    fn held(&self, resource: u16) -> Option<Figure>
+        ensures figure { figure_at result ≡ held_by self.now resource }
+        ensures small { IfSome result (λ held. unsigned_abs held.figure ≤ MOST_FIGURE) }
+    {
+        let place = self.place(resource)?;
+        self.rows[place]
     }
 
     // The figure of the resource, or 0.
     pub(crate) fn figure(&self, resource: u16) -> i64
         ensures value { result ≡ figure_in (held_by self.now) resource }
-        ensures small { unsigned_abs result ≤ 1000000000 }
+        ensures small { unsigned_abs result ≤ MOST_FIGURE }
     {
-        let at = self.own_place(resource);
-        if at < 32 { self.rows[at].figure } else { 0 }
+        self.held(resource).map_or(0, |held| held.figure)
     }
 
     // Whether the resource is held.
     pub(crate) fn holds(&self, resource: u16) -> bool
         ensures { result ≡ is_some (held_by self.now resource) }
     {
-        self.own_place(resource) < 32
+        self.held(resource).is_some()
     }
 
     // Holds a figure for the resource, in place of the one it had.
@@ -78,22 +81,17 @@ impl Table {
         if !is_in_range(resource, figure) {
             return Err(SettingRefusal::Outside);
         }
-        let place = self.place_for(resource);
-        if place < 32 {
-            self.rows[place] = Figure { resource, figure };
-            Ok(())
-        } else {
-            Err(SettingRefusal::Full)
-        }
+        let place = self.place_for(resource).ok_or(SettingRefusal::Full)?;
+        self.rows[place] = Some(Figure { resource, figure });
+        Ok(())
     }
 
     // Holds the resource no more.
     pub(crate) fn remove(&mut self, resource: u16)
         ensures { WasRemoved self.old self.new resource }
     {
-        let freed = self.own_place(resource);
-        if freed < 32 {
-            self.rows[freed] = FREE;
+        if let Some(place) = self.place(resource) {
+            self.rows[place] = None;
         }
     }
 }

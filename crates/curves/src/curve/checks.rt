@@ -1,69 +1,104 @@
 // The checks of a submitted curve, in order, each over the whole list of points.
-ghost use Rattle.std.specs.Prelude.{ℕ, ◌<◌, ◌≤◌, [], ◌∷◌, length, ◌≤ℤ◌, Decides, MatchOption};
-ghost use Rattle.numbers.specs.Checks.{Each, Passed, Refused};
-ghost use Rattle.curves.specs.Submission.{GoodPower, GoodPrice, PowerIn, checks, number_of, place_of};
+ghost use Rattle.std.specs.Prelude.{◌≡◌, IfSome, MatchResult, Decides, ◌≤ℤ◌, ◌<ℤ◌};
+ghost use Rattle.numbers.specs.Checks.{Passed, Answered, Checked};
+ghost use Rattle.curves.specs.Submission.{PowerIn, PriceIn, GoodCount, count_check, power_check, price_check, limit_check, checks, number_of, place_of};
+ghost use Rattle.curves.specs.Misfits.{AllFit, Misfit};
 
 use crate::points::{CurveRefusal, Point, SubmittedCurve};
 
-// The first place whose power is outside or not above the one before, or the number of points.
-fn power_offender(points: &[Point]) -> usize
-    ensures within { result ≤ length points.now }
-    ensures before { Each (GoodPower points.now) result }
-    ensures found { result < length points.now → GoodPower points.now result → ⊥ }
-{
-    for i in 0..points.len() {
-        if points[i].power < -2_000_000 || points[i].power > 2_000_000 {
-            return i;
-        }
-        if i > 0 && points[i].power <= points[i - 1].power {
-            return i;
-        }
-    }
-    points.len()
+// A row that passes every check.
+#[derive(Clone, Copy)]
+pub(crate) struct SoundRow<'a> {
+    pub(crate) row: &'a SubmittedCurve,
+    ghost passed: { Passed (checks row.now) },
 }
 
-// The first place whose price is outside or below the one before, or the number of points.
-fn price_offender(points: &[Point]) -> usize
-    ensures within { result ≤ length points.now }
-    ensures before { Each (GoodPrice points.now) result }
-    ensures found { result < length points.now → GoodPrice points.now result → ⊥ }
+fn is_power(power: i32) -> bool
+    ensures { Decides result (PowerIn power) }
 {
-    for i in 0..points.len() {
-        if points[i].price < -25_000 || points[i].price > 1_000_000 {
-            return i;
-        }
-        if i > 0 && points[i].price < points[i - 1].price {
-            return i;
-        }
-    }
-    points.len()
+    (-2_000_000..=2_000_000).contains(&power)
 }
 
-// Whether a row's limits are in range and in order.
-fn limits_stand(lsl: i32, hsl: i32) -> bool
-    ensures { Decides result (PowerIn lsl × PowerIn hsl × (lsl ≤ℤ hsl)) }
+fn is_price(price: i32) -> bool
+    ensures { Decides result (PriceIn price) }
 {
-    lsl >= -2_000_000 && hsl <= 2_000_000 && lsl <= hsl
+    (-25_000..=1_000_000).contains(&price)
 }
 
-// The first check that refuses a row.
-pub(crate) fn refusal_of(row: &SubmittedCurve) -> Option<CurveRefusal>
-    ensures { MatchOption result (Passed (checks row.now)) (λ f. Refused (checks row.now) (number_of f) (place_of f)) }
+// Whether a point's power is in its range and above the one before.
+fn power_fits(before: Option<Point>, point: Point) -> bool
+    ensures { Decides result (PowerIn point.power × IfSome before (λ b. b.power <ℤ point.power)) }
 {
-    if row.count < 1 || row.count > 10 {
-        return Some(CurveRefusal::Count);
+    is_power(point.power) && before.is_none_or(|before| before.power < point.power)
+}
+
+// Whether a point's price is in its range and not below the one before.
+fn price_fits(before: Option<Point>, point: Point) -> bool
+    ensures { Decides result (PriceIn point.price × IfSome before (λ b. b.price ≤ℤ point.price)) }
+{
+    is_price(point.price) && before.is_none_or(|before| before.price <= point.price)
+}
+
+// Each point fits behind the one before it; else the place of the first that does not, counted from 1.
+fn in_order<F: Fn(Option<Point>, Point) -> bool>(points: &[Point], fits: F) -> Result<(), usize>
+    requires { F.IsAlwaysCallable fits }
+    ensures { MatchResult result (λ _. AllFit (F.post fits) points.now) (Misfit (F.post fits) points.now) }
+{
+    let mut before = None;
+    for (i, point) in points.iter().enumerate() {
+        if !fits(before, *point) {
+            return Err(i + 1);
+        }
+        before = Some(*point);
     }
-    let power = power_offender(&row.points[0..row.count]);
-    if power < row.count {
-        return Some(CurveRefusal::Power(power + 1));
+    Ok(())
+}
+
+// There are 1 to 10 points.
+fn counted(row: &SubmittedCurve) -> Result<(), CurveRefusal>
+    ensures { Checked number_of place_of (count_check row.now) result }
+{
+    if !(1..=10).contains(&row.count) {
+        return Err(CurveRefusal::Count);
     }
-    let price = price_offender(&row.points[0..row.count]);
-    if price < row.count {
-        return Some(CurveRefusal::Price(price + 1));
+    Ok(())
+}
+
+// Each power is in its range and above the one before.
+fn powers(row: &SubmittedCurve) -> Result<(), CurveRefusal>
+    requires { GoodCount row.now }
+    ensures { Checked number_of place_of (power_check row.now) result }
+{
+    in_order(row.listed(), power_fits).map_err(CurveRefusal::Power)
+}
+
+// Each price is in its range and not below the one before.
+fn prices(row: &SubmittedCurve) -> Result<(), CurveRefusal>
+    requires { GoodCount row.now }
+    ensures { Checked number_of place_of (price_check row.now) result }
+{
+    in_order(row.listed(), price_fits).map_err(CurveRefusal::Price)
+}
+
+// The limits are in range and in order.
+fn limits(row: &SubmittedCurve) -> Result<(), CurveRefusal>
+    ensures { Checked number_of place_of (limit_check row.now) result }
+{
+    if !(is_power(row.lsl) && is_power(row.hsl) && row.lsl <= row.hsl) {
+        return Err(CurveRefusal::Limits);
     }
-    if limits_stand(row.lsl, row.hsl) {
-        None
-    } else {
-        Some(CurveRefusal::Limits)
+    Ok(())
+}
+
+impl<'a> SoundRow<'a> {
+    // The row, if every check passes; else the first that does not refuses it.
+    pub(crate) fn of(row: &'a SubmittedCurve) -> Result<SoundRow<'a>, CurveRefusal>
+        ensures { Answered (checks row.now) number_of place_of (λ sound. sound.row.now ≡ row.now) result }
+    {
+        counted(row)?;
+        powers(row)?;
+        prices(row)?;
+        limits(row)?;
+        Ok(SoundRow { row })
     }
 }

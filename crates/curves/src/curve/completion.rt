@@ -1,84 +1,110 @@
 // Curves from submitted rows: the market's completion for resources without full-range curves.
-ghost use Rattle.std.specs.Prelude.{◌≡◌, ℕ, ◌+◌, ◌<◌, ◌≤◌, [], ◌∷◌, ◌++◌, length, take, is_ok, if◌then◌else◌, MatchResult};
-ghost use Rattle.numbers.specs.Checks.{Passed, Refused, OneAnswer};
-ghost use Rattle.curves.specs.Shape.{Shaped};
-ghost use Rattle.curves.specs.Submission.{checks, number_of, place_of};
-ghost use Rattle.curves.specs.Completion.{completed};
+ghost use Rattle.std.specs.Prelude.{◌≡◌, ◌+◌, ◌-◌, ◌<◌, ◌++◌, length, is_ok};
+ghost use Rattle.numbers.specs.Checks.{Answered, Unambiguous};
+ghost use Rattle.bounded.specs.Items.{items_of};
+ghost use Rattle.curves.specs.Shape.{at, InLimits, Shaped};
+ghost use Rattle.curves.specs.Submission.{listed, checks, number_of, place_of};
+ghost use Rattle.curves.specs.Completion.{low_end, step_point, step_up, high_end, completed};
 ghost use Rattle.curves.specs.Acceptance.{accepted};
 ghost use Rattle.curves.specs.Curves.{points_of};
 
 use crate::curve::Curve;
-use crate::curve::checks::refusal_of;
+use crate::curve::checks::SoundRow;
 use crate::points::{CurveRefusal, Point, SubmittedCurve};
+use bounded::list::BoundedList;
 
-// Writes a point behind the first n, if it is wanted, and answers how many there are then.
-fn put_if(points: &mut [Point], n: usize, wanted: bool, p: Point) -> usize
-    requires room { n < length points.old }
-    ensures most { result ≤ n + 1 }
-    ensures list { take result points.new ≡ take n points.old ++ (if wanted then p ∷ [] else []) }
-{
-    if wanted {
-        points[n] = p;
-        n + 1
-    } else {
-        n
+impl SoundRow<'_> {
+    // The first point.
+    fn first(&self) -> Point
+        ensures value { result ≡ at (listed self.now.row.now) 0 }
+        ensures within { InLimits result }
+    {
+        self.row.listed()[0]
     }
-}
 
-// Writes points behind the first n, and answers how many there are then.
-fn put_all(points: &mut [Point], n: usize, more: &[Point]) -> usize
-    requires room { n + length more.now ≤ length points.old }
-    ensures count { result ≡ n + length more.now }
-    ensures list { take result points.new ≡ take n points.old ++ more.now }
-{
-    for i in 0..more.len() {
-        points[n + i] = more[i];
+    // The last point.
+    fn last(&self) -> Point
+        ensures value { result ≡ at (listed self.now.row.now) (self.now.row.now.count - 1) }
+        ensures within { InLimits result }
+    {
+        self.row.listed()[self.row.count - 1]
     }
-    n + more.len()
-}
 
-// Writes the completed points of a row, and answers how many there are.
-fn fill(row: &SubmittedCurve, points: &mut [Point]) -> usize
-    requires sound { Passed (checks row.now) }
-    requires room { length points.old ≡ 13 }
-    ensures within { result ≤ 13 }
-    ensures list { take result points.new ≡ completed row.now }
-    ensures shape { Shaped (take result points.new) }
-{
-    let first = row.points[0];
-    let last = row.points[row.count - 1];
-    let low = Point {
-        power: row.lsl,
-        price: -25_000,
-    };
-    let n = put_if(points, 0, row.lsl < first.power, low);
-    let step = Point {
-        power: first.power - 1_000,
-        price: first.price.min(-24_999),
-    };
-    let n = put_if(points, n, row.lsl < step.power, step);
-    let n = put_all(points, n, &row.points[0..row.count]);
-    let high = Point {
-        power: row.hsl,
-        price: last.price,
-    };
-    put_if(points, n, last.power < row.hsl, high)
+    // Puts LSL at the least price behind the points, if it is below the first power.
+    fn push_low_end(&self, points: &mut BoundedList<Point, 13>)
+        requires { length (items_of points.old) < 13 }
+        ensures { items_of points.new ≡ items_of points.old ++ low_end self.now.row.now }
+    {
+        let lsl = self.row.lsl;
+        if lsl < self.first().power {
+            points.push(Point {
+                power: lsl,
+                price: -25_000,
+            });
+        }
+    }
+
+    // The point 1,000 kW below the first power, at the lesser of −24,999 and the first price.
+    #[tactic(auto, using(std::proofs::lemmas::Int::clamps))]
+    fn step_point(&self) -> Point
+        ensures { result ≡ step_point self.now.row.now }
+    {
+        let first = self.first();
+        Point {
+            power: first.power - 1_000,
+            price: first.price.min(-24_999),
+        }
+    }
+
+    // Puts that point behind the points, if it is above LSL.
+    fn push_step_up(&self, points: &mut BoundedList<Point, 13>)
+        requires { length (items_of points.old) < 13 }
+        ensures { items_of points.new ≡ items_of points.old ++ step_up self.now.row.now }
+    {
+        let step = self.step_point();
+        if self.row.lsl < step.power {
+            points.push(step);
+        }
+    }
+
+    // Puts HSL at the last price behind the points, if it is above the last power.
+    fn push_high_end(&self, points: &mut BoundedList<Point, 13>)
+        requires { length (items_of points.old) < 13 }
+        ensures { items_of points.new ≡ items_of points.old ++ high_end self.now.row.now }
+    {
+        let hsl = self.row.hsl;
+        let last = self.last();
+        if last.power < hsl {
+            points.push(Point {
+                power: hsl,
+                price: last.price,
+            });
+        }
+    }
+
+    // The completed points.
+    fn completion(&self) -> BoundedList<Point, 13>
+        ensures list { items_of result ≡ completed self.now.row.now }
+        ensures shape { Shaped (items_of result) }
+    {
+        let mut points = BoundedList::new(Point { power: 0, price: 0 });
+        self.push_low_end(&mut points);
+        self.push_step_up(&mut points);
+        points.extend_from_slice(self.row.listed());
+        self.push_high_end(&mut points);
+        points
+    }
 }
 
 impl SubmittedCurve {
     // The curve that the row completes to, or why there is none.
+    #[tactic(auto, using(numbers::proofs::Checks::one_answer, crate::proofs::Acceptance::accepted_says))]
     pub fn complete(&self) -> Result<Curve, CurveRefusal>
-        ensures answer { MatchResult result (λ c. Passed (checks self.now) × (points_of c ≡ completed self.now)) (λ f. Refused (checks self.now) (number_of f) (place_of f)) }
+        ensures answer { Answered (checks self.now) number_of place_of (λ curve. points_of curve ≡ completed self.now) result }
         ensures test { is_ok result ≡ accepted self.now }
-        ensures once { (number place : ℕ) → OneAnswer (checks self.now) number place }
+        ensures once { Unambiguous (checks self.now) }
     {
-        match refusal_of(self) {
-            Some(f) => Err(f),
-            None => {
-                let mut points = [Point { power: 0, price: 0 }; 13];
-                let count = fill(self, &mut points);
-                Ok(Curve { points, count })
-            }
-        }
+        let points = SoundRow::of(self)?.completion();
+        Ok(Curve { points })
     }
 }

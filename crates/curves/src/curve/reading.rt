@@ -1,7 +1,7 @@
 // Prices read off a curve.
-ghost use Rattle.std.specs.Prelude.{◌≡◌, ℕ, ◌+◌, ◌<◌, ◌≤◌, length, pos, ◌≤ℤ◌, ◌<ℤ◌};
+ghost use Rattle.std.specs.Prelude.{◌≡◌, ◌≤◌, length, ◌≤ℤ◌, ◌<ℤ◌};
 ghost use Rattle.curves.specs.Shape.{InLimits, Shaped};
-ghost use Rattle.curves.specs.Reading.{line, reads, Reads, Pinned, price_at};
+ghost use Rattle.curves.specs.Reading.{line, reads, Reads, Pinned, FirstAbove, price_at};
 ghost use Rattle.curves.specs.Curves.{points_of};
 
 use crate::curve::Curve;
@@ -17,7 +17,26 @@ fn on_line(a: Point, b: Point, power: i32) -> i32
     ensures { result ≡ line a b power }
 {
     let sum = weighed(a.price, b.power.abs_diff(power)) + weighed(b.price, power.abs_diff(a.power));
-    nearest(sum, b.power.abs_diff(a.power) as u64) as i32
+    nearest(sum, u64::from(b.power.abs_diff(a.power))) as i32
+}
+
+// The place of the first point above a power.
+fn first_above(points: &[Point], power: i32) -> Option<usize>
+    ensures { FirstAbove points.now power result }
+{
+    points.iter().position(|point| power < point.power)
+}
+
+// The price at a power, over the points of a curve.
+fn read(points: &[Point], power: i32) -> i32
+    requires { Shaped points.now }
+    ensures { result ≡ reads points.now power }
+{
+    match first_above(points, power) {
+        Some(0) => points[0].price,
+        Some(place) => on_line(points[place - 1], points[place], power),
+        None => points[points.len() - 1].price,
+    }
 }
 
 impl Curve {
@@ -27,7 +46,7 @@ impl Curve {
         ensures shape { Shaped result.now }
         ensures few { length result.now ≤ 13 }
     {
-        &self.points[0..self.count]
+        self.points.as_slice()
     }
 
     // The price at a power.
@@ -36,20 +55,11 @@ impl Curve {
         ensures means { Reads (points_of self.now) power result }
         ensures only { Pinned (points_of self.now) power result }
     {
-        if power <= self.points[0].power {
-            return self.points[0].price;
-        }
-        let mut i: usize = 1;
-        while i < self.count {
-            if power < self.points[i].power {
-                return on_line(self.points[i - 1], self.points[i], power);
-            }
-            i += 1;
-        }
-        self.points[self.count - 1].price
+        read(self.points(), power)
     }
 
     // What a base point is priced at: the lesser of its reading and the cap.
+    #[tactic(auto, unfolding(crate::specs::Reading::price_at))]
     pub fn price_at(&self, base_point: i32, cap: i32) -> i32
         ensures { result ≡ price_at (points_of self.now) cap base_point }
     {

@@ -1,14 +1,13 @@
-use Rattle.std.proofs.Common.{◌+◌, sym, ap, ◌∙◌, arith}
-use Rattle.std.proofs.lemmas.List.{drop_all}
-use Rattle.law.specs.Steps.{loads_from}
-use Rattle.assess.proofs.Loads.{loads_pass, loads_fail}
+use Rattle.std.proofs.Common.{◌<◌, ◌≤◌, ℕ, get_or, length, rules, sym}
+use Rattle.assess.proofs.Loads.{loads_until, loads_none}
 use Rattle.assess.proofs.checks.check_loads.Goals as goal
 
-pub loop-k-preserved : goal.loop-k-preserved
-loop-k-preserved c = c.loop-k.invariant ∙ loads_pass (c.loop-k.k + 1) c.loop-k.k c.args.loads.now (omega arith) (omega arith)
+pub returns-in-Some : goal.returns-in-Some
+returns-in-Some c =
+    let h : (c.in-Some.before < length c.args.loads.now) × (20000000 < get_or c.args.loads.now c.in-Some.before 0) × ((k : ℕ) → k < c.in-Some.before → get_or c.args.loads.now k 0 ≤ 20000000) = search rules in
+    sym (loads_until 1 c.in-Some.before c.args.loads.now h.0 h.1 h.2)
 
-pub returns-then-loads-k-gt20000000 : goal.returns-then-loads-k-gt20000000
-returns-then-loads-k-gt20000000 c = sym (c.loop-k.invariant ∙ loads_fail (c.loop-k.k + 1) c.loop-k.k c.args.loads.now (omega arith) (omega arith))
-
-pub returns : goal.returns
-returns c = sym (c.loop-k.invariant ∙ ap (loads_from (c.loop-k.k + 1)) (drop_all c.loop-k.k c.args.loads.now (omega arith)))
+pub returns-in-None : goal.returns-in-None
+returns-in-None c =
+    let h : (k : ℕ) → k < length c.args.loads.now → get_or c.args.loads.now k 0 ≤ 20000000 = search rules in
+    sym (loads_none 1 c.args.loads.now h)

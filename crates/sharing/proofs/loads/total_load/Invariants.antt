@@ -1,5 +1,5 @@
 use Rattle.std.proofs.Common.{◌≡◌, ◌*◌, ◌≤◌, take, sum}
 use Rattle.sharing.proofs.loads.total_load.Given as goal
 
-abbrev pub invariant-loop-x : goal.invariant-loop-x
-invariant-loop-x l = (l.all ≡ sum (take l.x-index l.loads)) × (l.all ≤ 4294967295 * l.x-index)
+abbrev pub invariant-loop-load : goal.invariant-loop-load
+invariant-loop-load l = record { total : l.all ≡ sum (take l.load-index l.loads); small : l.all ≤ 4294967295 * l.load-index }

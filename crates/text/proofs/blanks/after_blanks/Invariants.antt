@@ -1,10 +1,9 @@
-use Rattle.std.proofs.Common.{◌-◌, length}
-use Rattle.text.specs.Text.{blank}
-use Rattle.text.proofs.Fronts.{Passing}
+use Rattle.std.proofs.Common.{◌≡◌, length}
+use Rattle.text.specs.Text.{blank, past}
 use Rattle.text.proofs.blanks.after_blanks.Given as goal
 
-abbrev pub invariant-loop-n : goal.invariant-loop-n
-invariant-loop-n l = Passing blank l.text l.n
+abbrev pub invariant-loop-text : goal.invariant-loop-text
+invariant-loop-text l = past blank l.text ≡ past blank l.fn.text
 
-abbrev pub decreases-loop-n : goal.decreases-loop-n
-decreases-loop-n l = length l.text - l.n
+abbrev pub decreases-loop-text : goal.decreases-loop-text
+decreases-loop-text l = length l.text

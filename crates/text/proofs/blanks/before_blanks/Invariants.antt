@@ -1,9 +1,9 @@
-use Rattle.std.proofs.Common.{◌≡◌, ◌≤◌, length, take}
+use Rattle.std.proofs.Common.{◌≡◌, length}
 use Rattle.text.specs.Text.{trim_end}
 use Rattle.text.proofs.blanks.before_blanks.Given as goal
 
-abbrev pub invariant-loop-n : goal.invariant-loop-n
-invariant-loop-n l = (l.n ≤ length l.text) × (trim_end (take l.n l.text) ≡ trim_end l.text)
+abbrev pub invariant-loop-text : goal.invariant-loop-text
+invariant-loop-text l = trim_end l.text ≡ trim_end l.fn.text
 
-abbrev pub decreases-loop-n : goal.decreases-loop-n
-decreases-loop-n l = l.n
+abbrev pub decreases-loop-text : goal.decreases-loop-text
+decreases-loop-text l = length l.text

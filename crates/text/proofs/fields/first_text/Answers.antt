@@ -1,17 +1,18 @@
-use Rattle.std.proofs.Common.{take, sym, ap, ◌∙◌}
-use native.Mathlib.Nat.{sub-zero}
+use Rattle.std.proofs.Common.{refl, sym, ap, ◌∙◌, take, drop}
 use Rattle.std.proofs.lemmas.List.{take_rest}
-use Rattle.text.specs.Text.{past, blank, trim_end}
-use Rattle.text.specs.Fields.{in_field}
-use Rattle.text.proofs.Fronts.{front_at, past_at}
+use Rattle.text.specs.Text.{trimmed}
+use Rattle.text.specs.Fields.{comma, in_field}
+use Rattle.text.proofs.Fronts.{front_first, past_first, first_byte}
 use Rattle.text.proofs.fields.first_text.Goals as goal
 
-pub returns : goal.returns
-returns c =
+pub returns-clause-value : goal.returns-clause-value
+returns-clause-value c =
     let s = c.args.line.now in
-    let n = c.field_len-n.result in
-    let at = c.field_len-n.ensures.value in
-    record {
-      value = c.before_blanks-text.ensures ∙ ap trim_end (c.after_blanks.ensures ∙ ap (past blank) (ap (λ k. take k s) (sub-zero n) ∙ sym (front_at in_field s n at)));
-      rest = take_rest s n ∙ past_at in_field s n at;
-    }
+    let end = sym (first_byte 44 s _ c.memchr.ensures ∙ sym c.unwrap_or-end.ensures) in
+    c.trimmed.ensures ∙ ap trimmed (ap (λ k. take k s) end ∙ front_first in_field comma (λ _. refl) s)
+
+pub returns-clause-rest : goal.returns-clause-rest
+returns-clause-rest c =
+    let s = c.args.line.now in
+    let end = sym (first_byte 44 s _ c.memchr.ensures ∙ sym c.unwrap_or-end.ensures) in
+    take_rest s _ ∙ ap (λ k. drop k s) end ∙ past_first in_field comma (λ _. refl) s

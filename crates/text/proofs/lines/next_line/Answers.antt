@@ -1,16 +1,20 @@
-use Rattle.std.proofs.Common.{take, drop, sym, ap, ◌∙◌}
-use native.Mathlib.Nat.{sub-zero}
+use Rattle.std.proofs.Common.{◌+◌, ap, ◌∙◌, rules}
 use Rattle.std.proofs.lemmas.List.{take_rest}
-use Rattle.text.specs.Lines.{in_line, without_cr}
-use Rattle.text.proofs.Fronts.{front_at, past_at}
-use Rattle.text.proofs.Ends.{lines_next, line_fewer}
+use Rattle.text.specs.Lines.{without_cr}
+use Rattle.text.proofs.Ends.{line_at, line_whole, lines_next}
 use Rattle.text.proofs.lines.next_line.Goals as goal
 
-pub returns : goal.returns
-returns c =
+pub returns-in-Some : goal.returns-in-Some
+returns-in-Some c =
     let s = c.args.text.now in
-    let n = c.line_len-n.result in
-    let at = c.line_len-n.ensures.value in
-    let first = c.without_cr.ensures ∙ ap without_cr (ap (λ k. take k s) (sub-zero n) ∙ sym (front_at in_line s n at)) in
-    let after = c.after_first.ensures ∙ ap (drop 1) (take_rest s n ∙ past_at in_line s n at) in
-    record { line = first; rest = after; lines = lines_next s _ _ first after; fewer = line_fewer s _ after }
+    let cut = line_at s c.in-Some.n c.in-Some.ensures in
+    let line = c.without_cr.ensures ∙ ap without_cr cut.0 in
+    let rest = take_rest s (c.in-Some.n + 1) ∙ cut.1 in
+    record { line = line; rest = rest; lines = lines_next s _ _ line rest; fewer = search rules }
+
+pub returns-in-None : goal.returns-in-None
+returns-in-None c =
+    let s = c.args.text.now in
+    let cut = line_whole s c.in-None.ensures in
+    let line = c.without_cr-in-None.ensures ∙ ap without_cr cut.0 in
+    record { line = line; rest = cut.1; lines = lines_next s _ _ line cut.1; fewer = search rules }

@@ -3,7 +3,7 @@ use Rattle.charges.specs.Settings.{held_by}
 use Rattle.charges.specs.SourceLaws.{based_layered}
 use Rattle.charges.proofs.denial.DenialBasisSource.basis.Goals as goal
 
-pub returns : goal.returns
-returns g c =
+pub returns-clause-based : goal.returns-clause-based
+returns-clause-based g c =
     let self = c.args.self.now in
-    record { value = c.basis.ensures.value; based = based_layered (denied_entry (held_by self.table)) (g.S.LineSource.lines self.below) c.args.n c.basis.result c.basis.ensures.based }
+    based_layered (denied_entry (held_by self.table)) (g.S.LineSource.lines self.below) c.args.n c.basis.result c.basis.ensures.based

@@ -1,41 +1,34 @@
-use Rattle.std.proofs.Common.{pos, is_some, sym, refl, ap, ◌∙◌, ⊎_elim, arith, length-set}
-use mathlib.Core.Path.{fun_ext}
-use Rattle.std.proofs.lemmas.Bool.{false≢true}
-use Rattle.charges.specs.declared.figure.Figure.{Figure}
-use Rattle.charges.proofs.Places.{own_low, own_held, remove_wrote, remove_none, wrote_map, wrote_small, wrote_known, some_not_none}
+use Rattle.std.proofs.Common.{None, is_some, sym, refl, ap, ◌∙◌, ⊎_elim, arith}
+use Rattle.std.proofs.lemmas.Bool.{true≢false}
+use Rattle.charges.proofs.Places.{own_place, own_held, own_known, no_place, written, known_written, size_less, same_map}
 use Rattle.charges.proofs.table.Table.remove.Goals as goal
-
-abbrev empty : Figure
-empty = record { resource = 0; figure = pos 0 }
 
 pub invariant_of-self : goal.invariant_of-self
 invariant_of-self c =
     let t = c.args.self.now in
-    let at = c.own_place-freed.result in
-    let low = own_low t.rows c.args.resource at c.own_place-freed.ensures c.if-freed-lt32.true in
-    let w = remove_wrote t.rows c.args.resource at t.many c.own_place-freed.ensures empty c.if-freed-lt32.true t.once refl in
+    let place = own_place t.rows c.args.resource c.in-Some.place t.once (sym c.in-Some.ensures) in
+    let w = written t.rows c.args.resource c.in-Some.place None t.once place in
     record {
-      many = length-set t.rows at empty ∙ t.many;
+      many = w.many ∙ t.many;
       once = w.once;
-      small = wrote_small w low (omega arith) t.small;
-      known = wrote_known w low (λ no. absurd (false≢true no)) t.known;
+      known = known_written t.rows c.args.resource c.in-Some.place None place.within tt t.known;
     }
 
-pub returns-then-freed-lt32 : goal.returns-then-freed-lt32
-returns-then-freed-lt32 c =
+pub returns-in-Some : goal.returns-in-Some
+returns-in-Some c =
     let t = c.args.self.now in
-    let at = c.own_place-freed.result in
-    let low = own_low t.rows c.args.resource at c.own_place-freed.ensures c.if-freed-lt32.true in
-    let w = remove_wrote t.rows c.args.resource at t.many c.own_place-freed.ensures empty c.if-freed-lt32.true t.once refl in
-    let held = own_held t.rows c.args.resource at empty c.own_place-freed.ensures t.many c.if-freed-lt32.true in
+    let r = c.args.resource in
+    let at = sym c.in-Some.ensures in
+    let w = written t.rows r c.in-Some.place None t.once (own_place t.rows r c.in-Some.place t.once at) in
+    let known = own_known t.rows r c.in-Some.place t.known at in
     record {
-      holds = record { map = fun_ext (wrote_map w low); many = w.size };
-      kept = λ none. absurd (some_not_none _ (sym held ∙ none));
-      outside = ⊎_elim (λ less. absurd (omega arith)) (λ more. absurd (omega (arith, t.known c.args.resource (ap is_some held))));
+      holds = record { map = w.map; many = size_less _ _ _ w.size };
+      kept = λ none. absurd (true≢false (sym (own_held t.rows r c.in-Some.place t.once at) ∙ ap is_some none));
+      outside = ⊎_elim (λ less. absurd (omega arith)) (λ more. absurd (omega arith));
     }
 
-pub returns-else-freed-lt32 : goal.returns-else-freed-lt32
-returns-else-freed-lt32 c =
+pub returns-in_default : goal.returns-in_default
+returns-in_default c =
     let t = c.args.self.now in
-    let n = remove_none t.rows c.args.resource c.own_place-freed.result t.many c.own_place-freed.ensures c.if-freed-lt32.false in
-    record { holds = record { map = n.0; many = n.1 }; kept = λ none. refl; outside = λ out. refl }
+    let none = no_place t.rows c.args.resource (sym c.in_default.ensures) in
+    record { holds = record { map = same_map t.rows c.args.resource none; many = rw none }; kept = λ _. refl; outside = λ _. refl }

@@ -1,42 +1,47 @@
-use Rattle.std.proofs.Common.{ℕ, ◌≤◌, true, ℤ, nat_abs, Some, Decides, sym, refl, ap, ◌∙◌, subst, inl, inr, length-set, w64, SFits, to_z, of_z}
-use mathlib.Core.Path.{fun_ext}
+use Rattle.std.proofs.Common.{◌≡◌, ℕ, true, ℤ, Some, None, Err, Decides, sym, refl, ap, ◌∙◌, subst, inl, inr, w64, SFits, to_z, of_z}
 use Rattle.std.proofs.lemmas.Int.{to_z-of_z}
+use Rattle.std.proofs.lemmas.Result.{err_from_is_err_and}
 use Rattle.charges.specs.Refusals.{InRange}
-use Rattle.charges.specs.Settings.{changed, held_by}
-use Rattle.charges.specs.declared.figure.Figure.{Figure}
-use Rattle.charges.proofs.Places.{set_wrote, set_full, wrote_map, wrote_small, wrote_known}
+use Rattle.charges.specs.Table.{place_for}
+use Rattle.charges.specs.declared.setting.SettingRefusal.TheVariants.{Full}
+use Rattle.charges.specs.Settings.{changed, held_by, WasSet}
+use Rattle.charges.proofs.Places.{set_place, set_full, written, known_written, size_more}
 use Rattle.charges.proofs.table.Table.set.Goals as goal
 
 -- what the test told, clear of the figure's bits
 good : (r : ℕ) (z : ℤ) → SFits w64 z → Decides true (InRange r (to_z w64 (of_z w64 z))) → InRange r z
 good r z fits told = subst (InRange r) (to_z-of_z w64 z fits) (told.0 refl)
 
+pub returns-in_err-place : goal.returns-in_err-place
+returns-in_err-place c =
+    let t = c.args.self.now in
+    let none : place_for t.rows c.args.resource ≡ None = sym c.place_for.ensures ∙ c.in_err-place.ensures.ok_part in
+    let p = err_from_is_err_and c.from_residual.result c.from_residual.ensures.1 in
+    let full = rw c.in_err-place.ensures.ok_part at c.in_err-place.ensures.value in
+    let is : c.in_err-place.field-0.0 ≡ Full = cc in
+    subst (WasSet t t c.args.resource c.args.figure) (sym (p.1 ∙ ap Err (p.2 ∙ is)))
+    (inr (good c.args.resource c.args.figure c.ranges.figure c.if-not-is_in_range.ensures, inl (refl, refl, λ has. set_full t.rows c.args.resource t.many none has)), refl)
+
 pub invariant_of-self : goal.invariant_of-self
 invariant_of-self c =
     let t = c.args.self.now in
-    let r = c.args.resource in
-    let at = c.place_for-place.result in
-    let x : Figure = record { resource = r; figure = to_z w64 (of_z w64 c.args.figure) } in
-    let ok = good c.args.resource c.args.figure c.ranges.figure c.if-not-is_in_range.ensures in
-    let w = (set_wrote t.rows r at t.many ok.0 c.place_for-place.ensures x c.if-place-lt32.true t.once refl).0 in
+    let z = to_z w64 (of_z w64 c.args.figure) in
+    let at : place_for t.rows c.args.resource ≡ Some c.in_ok-place.place = sym c.place_for.ensures ∙ c.in_ok-place.ensures.ok_part in
+    let place = (set_place t.rows c.args.resource c.in_ok-place.place t.many t.once at).0 in
+    let w = written t.rows c.args.resource c.in_ok-place.place (Some z) t.once place in
     record {
-      many = length-set t.rows at x ∙ t.many;
+      many = w.many ∙ t.many;
       once = w.once;
-      small = wrote_small w ok.0 (subst (λ z. nat_abs z ≤ 1000000000) (sym (to_z-of_z w64 c.args.figure c.ranges.figure)) ok.2) t.small;
-      known = wrote_known w ok.0 (λ _. ok.1) t.known;
+      known = known_written t.rows c.args.resource c.in_ok-place.place (Some z) place.within (c.if-not-is_in_range.ensures.0 refl) t.known;
     }
 
-pub returns-then-place-lt32 : goal.returns-then-place-lt32
-returns-then-place-lt32 c =
+pub returns : goal.returns
+returns c =
     let t = c.args.self.now in
-    let r = c.args.resource in
-    let x : Figure = record { resource = r; figure = to_z w64 (of_z w64 c.args.figure) } in
-    let ok = good c.args.resource c.args.figure c.ranges.figure c.if-not-is_in_range.ensures in
-    let s = set_wrote t.rows r c.place_for-place.result t.many ok.0 c.place_for-place.ensures x c.if-place-lt32.true t.once refl in
-    ((ok, (s.1, tt)), record { map = fun_ext (wrote_map s.0 ok.0) ∙ ap (λ z. changed (held_by t) r (Some z)) (to_z-of_z w64 c.args.figure c.ranges.figure); many = s.0.size })
-
-pub returns-else-place-lt32 : goal.returns-else-place-lt32
-returns-else-place-lt32 c =
-    let t = c.args.self.now in
-    let ok = good c.args.resource c.args.figure c.ranges.figure c.if-not-is_in_range.ensures in
-    (inr (ok, inl (refl, refl, set_full t.rows c.args.resource c.place_for-place.result t.many ok.0 c.place_for-place.ensures c.if-place-lt32.false)), refl)
+    let z = to_z w64 (of_z w64 c.args.figure) in
+    let at : place_for t.rows c.args.resource ≡ Some c.in_ok-place.place = sym c.place_for.ensures ∙ c.in_ok-place.ensures.ok_part in
+    let s = set_place t.rows c.args.resource c.in_ok-place.place t.many t.once at in
+    let w = written t.rows c.args.resource c.in_ok-place.place (Some z) t.once s.0 in (
+      (good c.args.resource c.args.figure c.ranges.figure c.if-not-is_in_range.ensures, (s.1, tt)),
+      record { map = w.map ∙ ap (λ f. changed (held_by t) c.args.resource (Some f)) (to_z-of_z w64 c.args.figure c.ranges.figure); many = size_more _ _ _ w.size },
+    )
