@@ -18,6 +18,3 @@ module _ (n m : ℕ) (st w : Bool) (t i : ℕ) (loads : List ℕ) (lines : List 
 
   pub stopped_early : (k p : ℕ) (f : Option Carried) → raises k p f ≡ first (slot_checks n m st w t i loads) → raises k p f ≡ first (checks n m st w t i loads lines)
   stopped_early k p f e = sym (whole ∙ ap (λ c. both c (first (line_checks n t i loads lines))) (sym e))
-
-  pub went_on : (c : Finding) → clear ≡ first (slot_checks n m st w t i loads) → c ≡ first (line_checks n t i loads lines) → c ≡ first (checks n m st w t i loads lines)
-  went_on c e f = f ∙ sym (whole ∙ ap (λ x. both x (first (line_checks n t i loads lines))) (sym e))

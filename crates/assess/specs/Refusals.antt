@@ -4,14 +4,15 @@ use Rattle.walk.specs.declared.flaw.Flaw.{Flaw}
 use Rattle.walk.specs.declared.flaw.Flaw.TheVariants as flaws
 use Rattle.law.specs.Steps.{Carried, Answer, accepted, refused, balance_is, Finding, clear, raises}
 use Rattle.assess.specs.declared.refusals.Refusal.{Refusal}
-use Rattle.assess.specs.declared.refusals.Refusal.TheVariants.{Size, NoSlot, Loads, Standing, ManyLines, Faulty, Unfit, Total, NoLoad, NoParty}
+use Rattle.assess.specs.declared.refusals.Refusal.TheVariants.{Size, NoSlot, LoadCount, Load, Standing, ManyLines, Faulty, Unfit, Total, NoLoad, NoParty}
 use Rattle.assess.specs.declared.refusals.SlotFlaw.{SlotFlaw}
 
 -- a refusal's number
 abbrev pub number_of : Refusal → ℕ
 number_of Size = 61
 number_of NoSlot = 31
-number_of (Loads p) = 32
+number_of LoadCount = 32
+number_of (Load p) = 32
 number_of Standing = 33
 number_of ManyLines = 34
 number_of (Faulty t i n f) = 35
@@ -24,7 +25,8 @@ number_of NoParty = 39
 abbrev pub place_of : Refusal → ℕ
 place_of Size = 0
 place_of NoSlot = 0
-place_of (Loads p) = p
+place_of LoadCount = 0
+place_of (Load p) = p
 place_of Standing = 0
 place_of ManyLines = 0
 place_of (Faulty t i n f) = n
@@ -37,7 +39,8 @@ place_of NoParty = 0
 abbrev pub carries : Refusal → Option Carried
 carries Size = None
 carries NoSlot = None
-carries (Loads p) = None
+carries LoadCount = None
+carries (Load p) = None
 carries Standing = None
 carries ManyLines = None
 carries (Faulty t i n f) = Some (record { type = t; interval = i; fault = f })

@@ -18,7 +18,7 @@ pub fn check_count(parties: usize, loads: &[u32]) -> Result<(), Refusal>
     ensures { raised result ≡ holds_or (length loads.now == parties) 32 0 }
 {
     if loads.len() != parties {
-        return Err(Refusal::Loads(0));
+        return Err(Refusal::LoadCount);
     }
     Ok(())
 }
@@ -26,10 +26,10 @@ pub fn check_count(parties: usize, loads: &[u32]) -> Result<(), Refusal>
 pub fn check_loads(loads: &[u32]) -> Result<(), Refusal>
     ensures { raised result ≡ loads_from 1 loads.now }
 {
-    match loads.iter().position(|load| *load > 20_000_000) {
-        Some(before) => Err(Refusal::Loads(before + 1)),
-        None => Ok(()),
+    if let Some(before) = loads.iter().position(|load| *load > 20_000_000) {
+        return Err(Refusal::Load(before + 1));
     }
+    Ok(())
 }
 
 pub fn check_stands(stands: bool, wanted: bool) -> Result<(), Refusal>

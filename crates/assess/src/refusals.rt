@@ -12,8 +12,10 @@ pub enum Refusal {
     Size,
     // the charge type or the interval is outside
     NoSlot,
-    // not one load for each party (place 0), or one outside (its party)
-    Loads(usize),
+    // there is not one load for each party
+    LoadCount,
+    // this party's load is outside
+    Load(usize),
     // the slot stands, or does not
     Standing,
     // the source has more than 256 lines
@@ -71,7 +73,7 @@ impl Numbered for Refusal {
         match self {
             Refusal::Size => 61,
             Refusal::NoSlot => 31,
-            Refusal::Loads(_) => 32,
+            Refusal::LoadCount | Refusal::Load(_) => 32,
             Refusal::Standing => 33,
             Refusal::ManyLines => 34,
             Refusal::Faulty { .. } => 35,
@@ -84,10 +86,11 @@ impl Numbered for Refusal {
 
     fn place(&self) -> usize {
         match *self {
-            Refusal::Loads(party) => party,
+            Refusal::Load(party) => party,
             Refusal::Faulty { line, .. } | Refusal::Unfit(line) => line,
             Refusal::Size
             | Refusal::NoSlot
+            | Refusal::LoadCount
             | Refusal::Standing
             | Refusal::ManyLines
             | Refusal::Total

@@ -1,8 +1,8 @@
 -- What the calls that write leave: the model, and the surplus.
-use Rattle.std.proofs.Common.{◌≡◌, ℕ, ◌+◌, ◌-◌, ◌*◌, ◌<◌, ◌≤◌, ◌≢◌, ◌⊎◌, Bool, true, List, length, get_or, set, ℤ, pos, Some, None, Option, refl, ap, ◌∙◌, subst, inr, mul-le-mul_right, arith, length-set, get_or-set_other}
+use Rattle.std.proofs.Common.{◌≡◌, ℕ, ◌+◌, ◌-◌, ◌*◌, ◌<◌, ◌≤◌, ◌≢◌, ◌⊎◌, Bool, true, List, length, get_or, set, ℤ, pos, Some, None, refl, ap, ◌∙◌, subst, inr, mul-le-mul_right, arith, length-set, get_or-set_other}
 use Rattle.law.specs.Settlements as words
 use Rattle.law.specs.Settlements.{Among, SlotOf, Settlement, Lawful}
-use Rattle.law.specs.Steps.{Carried, clear, raises, first, checks, told, HoldsNow, accepted, refused, void}
+use Rattle.law.specs.Steps.{clear, first, checks, told, HoldsNow, accepted, void}
 use Rattle.assess.specs.declared.slots.SlotId.{SlotId}
 use Rattle.assess.specs.Slots.{type_number, Names, Within}
 use Rattle.book.specs.declared.ledger.Book.{Book}
@@ -12,14 +12,7 @@ use Rattle.book.specs.Model.{means, blank, off, on, slot_at, entered, row, named
 use Rattle.book.specs.Books.{model, SameSurplus, Moves}
 use Rattle.book.proofs.Fills.{NowAt, Cleared}
 use Rattle.book.proofs.Places.{slot_under}
-use Rattle.book.proofs.Settles.{settled, voided, step_put, step_refused, void_accepted}
-
-pub none_moved : (slots entries : ℕ) (b : Book) → SameSurplus slots entries b b
-none_moved slots entries b = record { slots_lent = refl; entries_lent = refl; slots_past = (refl, λ j h. refl); entries_past = (refl, λ j h. refl) }
-
--- a refused settle or restate
-pub put_refused : (w : Bool) (b : Book) (t i : ℕ) (s : Settlement) (k p : ℕ) (f : Option Carried) → Lawful s.rule → raises k p f ≡ first (checks b.parties b.intervals ((model b).stands t i) w t i s.loads s.lines) → Moves b (named w t i s) (refused k p f) b
-put_refused w b t i s k p f law e = record { step = step_refused w (model b) t i s k p f law (ap told e); surplus = none_moved _ _ b; refusal = refl }
+use Rattle.book.proofs.Settles.{settled, voided, step_put, void_accepted}
 
 -- the book c is the book b with the mark of place k, and other entries
 pub record Marked (b c : Book) (k : ℕ) (v : Slot) : Type 0 where

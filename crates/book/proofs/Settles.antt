@@ -1,8 +1,8 @@
 -- What a settle and a void leave.
-use Rattle.std.proofs.Common.{◌≡◌, ℕ, ◌-◌, ◌*◌, ◌<◌, ◌≤◌, Bool, true, false, ◌&&◌, eqb, List, length, set, Some, None, Option, refl, ap, arith, get_or-set_other, get_or-set_same}
+use Rattle.std.proofs.Common.{◌≡◌, ℕ, ◌-◌, ◌*◌, ◌<◌, ◌≤◌, Bool, true, false, ◌&&◌, eqb, List, length, set, Some, None, refl, ap, arith, get_or-set_other, get_or-set_same}
 use Rattle.std.proofs.lemmas.Bool.{and_from, eq-eqb, both_ways}
 use Rattle.law.specs.Settlements.{SlotOf, Settlement, Book, Lawful}
-use Rattle.law.specs.Steps.{Carried, HoldsNow, Step, accepted, refused, told, first, checks, void_checks, among}
+use Rattle.law.specs.Steps.{HoldsNow, Step, accepted, told, first, checks, void_checks, among}
 use Rattle.law.proofs.Table.{so_among}
 use Rattle.book.specs.declared.rows.Slot.{Slot}
 use Rattle.book.specs.declared.rows.Entry.{Entry}
@@ -47,7 +47,3 @@ module _ (n m t i : ℕ) (slots : List Slot) (entries entries' : List Entry) (h 
 pub step_put : (w : Bool) (b : Book) (t i : ℕ) (s : Settlement) (after : Book) → Lawful s.rule → accepted ≡ told (first (checks b.parties b.intervals (b.stands t i) w t i s.loads s.lines)) → HoldsNow b t i (Some s) after → Step b (named w t i s) accepted after
 step_put true b t i s after law e h = record { lawful = law; says = e; left = h }
 step_put false b t i s after law e h = record { lawful = law; says = e; left = h }
-
-pub step_refused : (w : Bool) (b : Book) (t i : ℕ) (s : Settlement) (k p : ℕ) (f : Option Carried) → Lawful s.rule → refused k p f ≡ told (first (checks b.parties b.intervals (b.stands t i) w t i s.loads s.lines)) → Step b (named w t i s) (refused k p f) b
-step_refused true b t i s k p f law e = record { lawful = law; says = e; left = refl }
-step_refused false b t i s k p f law e = record { lawful = law; says = e; left = refl }

@@ -11,6 +11,7 @@ pub struct BoundedList<T, const N: usize> {
     ghost within: { count ≤ N },
 }
 
+// Kept: no copy can be derived for a generic struct that carries a fact.
 impl<T: Copy, const N: usize> Clone for BoundedList<T, N> {
     ghost is_clone = { λ list copy. copy ≡ list };
 

@@ -145,10 +145,6 @@ some_figure : (row : Option Figure) → is_some (figure_at row) ≡ is_some row
 some_figure None = refl
 some_figure (Some held) = refl
 
-back : (r : ℕ) (o : Option ℤ) → figure_at (row_of r o) ≡ o
-back r None = refl
-back r (Some f) = refl
-
 other_row : (r : ℕ) (o : Option ℤ) (k : ℕ) → (k ≡ r → ⊥) → has_resource k (row_of r o) ≡ false
 other_row r None k ne = refl
 other_row r (Some f) k ne = ne_eqb r k (λ q. ne (sym q))
@@ -236,10 +232,6 @@ or_some (Some x) p i e = inl e
 or_none : (o p : Option ℕ) → option_or o p ≡ None → (o ≡ None) × (p ≡ None)
 or_none None p e = (refl, e)
 or_none (Some x) p e = absurd (none-some x (sym e))
-
-pub or_else_is : {P : Type 0} (o r p : Option ℕ) → MatchOption o P (λ x. r ≡ Some x) → (P → r ≡ p) → r ≡ option_or o p
-or_else_is None r p h is = is h
-or_else_is (Some x) r p h is = h
 
 -- a setting finds a place exactly where there is one
 pub set_place : (rows : List (Option Figure)) (r i : ℕ) → length rows ≡ 32 → Once rows → place_for rows r ≡ Some i → Place rows r i × ((is_some (held_in rows r) ≡ true) ⊎ (held_count rows < 32))

@@ -112,7 +112,7 @@ impl<S: LineSource> Adjustment<S> {
     }
 }
 
-// Kept: as in a period.
+// Kept: what the layers pass on alike is one line each, which one generic layer would make no plainer.
 impl<S: LineSource> LineSource for Adjustment<S> {
     ghost lines = { λ s. adjusted_lines (held_by s.table) (S.LineSource.lines s.below) };
 

@@ -64,7 +64,7 @@ impl<S: LineSource> Denial<S> {
     }
 }
 
-// Kept: as in a period.
+// Kept: what the layers pass on alike is one line each, which one generic layer would make no plainer.
 impl<S: LineSource> LineSource for Denial<S> {
     ghost lines = { λ s. denied_lines (held_by s.table) (S.LineSource.lines s.below) };
 

@@ -65,8 +65,8 @@ impl Layer {
 pub struct Fault {
     pub cause: Cause,
     pub line: usize,
-    // Kept: faults are told by numbers, and a fault of no field by field 0.
     // the field at fault, 0 if it is none
+    // Kept: faults are told by numbers, and a fault of no field by field 0.
     pub field: u8,
     pub layer: Layer,
 }

@@ -6,7 +6,7 @@ use crate::fault::{Cause, Fault};
 use crate::limits::{LAST_RESOURCE, MOST_CENTS};
 use crate::reader::{BasisReader, Reader};
 
-#[derive(Clone, Copy)]
+#[derive(Clone, Copy, PartialEq, Eq, Debug)]
 pub struct ListedRow {
     pub resource: u16,
     pub party: u8,
@@ -14,7 +14,7 @@ pub struct ListedRow {
 }
 
 // The reader of listed rows.
-#[derive(Clone, Copy)]
+#[derive(Clone, Copy, PartialEq, Eq, Debug)]
 pub struct Listed;
 
 impl Reader<ListedRow> for Listed {

@@ -46,6 +46,7 @@ impl<'a, R, T: BasisReader<R>> BasisSource for RowSource<'a, R, T> {
 
     #[tactic(auto, using(crate::specs::SourceLaws::at_numbered))]
     fn basis(&self, n: usize) -> u32 {
+        // Kept: a match, since a closure that asks the reader would need both of its promises written out again.
         match self.row(n) {
             Some(row) => self.reader.rest(n, row),
             None => 0,

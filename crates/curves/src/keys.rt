@@ -10,7 +10,7 @@ use directory::lookup::{Directory, DirectoryRefusal};
 use std::cmp::Ordering;
 
 // What a submitted curve is found by: the resource, and then the hour.
-#[derive(Clone, Copy, PartialEq, Eq, PartialOrd, Ord)]
+#[derive(Clone, Copy, PartialEq, Eq, PartialOrd, Ord, Debug)]
 pub struct CurveKey {
     pub resource: u16,
     pub hour: u8,
@@ -46,6 +46,7 @@ impl Keyed for SubmittedCurve {
 }
 
 // The directory of submitted curves, as they are: each is checked when it is made into a curve.
+// Kept: the generic call under a name of its own, which says what is promised of curves.
 pub fn submitted_curves<'a>(
     rows: &'a [SubmittedCurve],
 ) -> Result<Directory<'a, SubmittedCurve>, DirectoryRefusal>

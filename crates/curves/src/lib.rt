@@ -4,4 +4,5 @@
 pub mod curve;
 pub mod figures;
 pub mod keys;
+pub mod limits;
 pub mod points;

@@ -2,9 +2,10 @@
 ghost use Rattle.std.specs.Prelude.{◌≡◌, length, min};
 ghost use Rattle.curves.specs.Submission.{listed, number_of, place_of};
 
+use crate::limits::MOST_SUBMITTED;
 use numbers::numbered::Numbered;
 
-#[derive(Clone, Copy)]
+#[derive(Clone, Copy, PartialEq, Eq, Debug)]
 pub struct Point {
     // in kW
     pub power: i32,
@@ -14,7 +15,7 @@ pub struct Point {
 
 // A submitted curve.
 // Kept: a plain row as it is handed in, of which nothing is promised; its count may exceed the room.
-#[derive(Clone, Copy)]
+#[derive(Clone, Copy, PartialEq, Eq, Debug)]
 pub struct SubmittedCurve {
     pub resource: u16,
     pub hour: u8,
@@ -22,7 +23,7 @@ pub struct SubmittedCurve {
     pub hsl: i32,
     // how many points were submitted, also where there is no room for them
     pub count: usize,
-    pub points: [Point; 10],
+    pub points: [Point; MOST_SUBMITTED],
 }
 
 impl SubmittedCurve {
@@ -31,7 +32,7 @@ impl SubmittedCurve {
         ensures value { result.now ≡ listed self.now }
         ensures many { length result.now ≡ min self.now.count 10 }
     {
-        &self.points[..self.count.min(10)]
+        &self.points[..self.count.min(MOST_SUBMITTED)]
     }
 }
 

@@ -39,6 +39,7 @@ pub struct Day {
 #[derive(Clone, Copy, PartialEq, Eq, Debug)]
 pub enum RecordFault {
     // the first field that is wrong; 0 for the record as a whole
+    // Kept: 0 for the whole record, as it is told.
     Malformed(u32),
     Refused(QuarterRefusal),
     Memory,

@@ -6,6 +6,7 @@ ghost use Rattle.day.specs.Held.{held_signed, held_natural};
 use text::numbers::Number;
 
 // A type of the library that holds a reading.
+// Kept: a body for each type, since each is one call of the library, and the value at the end differs.
 pub trait Held: Sized {
     // What the reading is read as.
     type Reading: Number;
@@ -28,7 +29,6 @@ impl Held for i32 {
     }
 }
 
-// Kept: what each type below holds is one call of the library, and a function for them all would be as long as the call.
 // A number of 32 bits without a sign; any other becomes the largest.
 impl Held for u32 {
     type Reading = i64;

@@ -117,6 +117,7 @@ impl<'t> RecordReader<'t, '_> {
     }
 
     // As many base points as there are slices.
+    // Kept: a row of fixed size, as the row that they are read for.
     fn bases(&mut self) -> Result<[i32; 15], Fault>
         ensures { Reads 1 self.old self.new result }
     {

@@ -7,10 +7,9 @@ use crate::roll::Roll;
 use crate::steps;
 use curves::keys::{CurveKey, submitted_curves};
 use curves::points::SubmittedCurve;
-use directory::lookup::{Directory, DirectoryRefusal};
+use directory::lookup::Directory;
 use directory::parties::parties;
 use emergency::row::RowFault;
-use numbers::numbered::Numbered;
 use std::alloc::{AllocError, Global};
 use std::fmt;
 use text::answers::Answers;
@@ -107,20 +106,6 @@ pub fn do_records(
     Ok(tally)
 }
 
-// Why a directory is not made.
-fn tell_refused_directory(
-    out: &mut Answers,
-    of: &str,
-    refusal: DirectoryRefusal,
-) -> Result<(), AllocError> {
-    writeln!(
-        out,
-        "the directory of {of} is refused: {} at record {}",
-        refusal.number(),
-        refusal.place()
-    )
-}
-
 // A row by its line, resource, party and hour.
 fn tell_reading(out: &mut Answers, parties: &Roll, reading: &Reading) -> Result<(), AllocError> {
     let Reading { line, row, .. } = reading;
@@ -156,7 +141,7 @@ fn price_on(
     let curve = match submitted.complete() {
         Ok(curve) => curve,
         Err(refusal) => {
-            steps::tell_refused_curve(out, refusal)?;
+            steps::tell_refused(out, "  the curve", "point", refusal)?;
             return steps::tell_fault(out, RowFault::NoCurve);
         }
     };
@@ -190,11 +175,11 @@ fn price_readings(
 pub fn price(heap: Global, day: &Day, out: &mut Answers) -> Result<(), AllocError> {
     let codes = day.parties.codes(heap)?;
     if let Err(refusal) = parties(codes.as_slice()) {
-        return tell_refused_directory(out, "parties", refusal);
+        return steps::tell_refused(out, "the directory of parties", "record", refusal);
     }
     match submitted_curves(day.curves.as_slice()) {
         Ok(curves) => price_readings(out, day, &curves),
-        Err(refusal) => tell_refused_directory(out, "curves", refusal),
+        Err(refusal) => steps::tell_refused(out, "the directory of curves", "record", refusal),
     }
 }
 

@@ -1,6 +1,6 @@
 // The steps from a row to its payment, told so that a bookkeeper can follow them.
 use curves::curve::Curve;
-use curves::points::{CurveRefusal, Point, SubmittedCurve};
+use curves::points::{Point, SubmittedCurve};
 use emergency::payment::Payment;
 use emergency::row::{EmergencyRow, RowFault};
 use numbers::numbered::Numbered;
@@ -29,14 +29,16 @@ pub fn tell_completed(out: &mut Answers, curve: &Curve) -> Result<(), AllocError
     writeln!(out, "in cents per MWh")
 }
 
-// Why there is no curve.
-pub fn tell_refused_curve(out: &mut Answers, refusal: CurveRefusal) -> Result<(), AllocError> {
-    writeln!(
-        out,
-        "  the curve is refused: {} at point {}",
-        refusal.number(),
-        refusal.place()
-    )
+// Why something is refused, and where.
+pub fn tell_refused<R: Numbered + Drop>(
+    out: &mut Answers,
+    what: &str,
+    unit: &str,
+    refusal: R,
+) -> Result<(), AllocError> {
+    let number = refusal.number();
+    let place = refusal.place();
+    writeln!(out, "{what} is refused: {number} at {unit} {place}")
 }
 
 // Each slice with its base point: its reading, and its price under the cap.

@@ -1,9 +1,11 @@
 -- The book of the figure: its settle is accepted, and what each party owes.
-use Rattle.std.proofs.Common.{◌≡◌, ℕ, ◌≤◌, true, false, ltb, leb, List, [], ◌∷◌, ℤ, negsuc, Ok, sum, Option, refl, ap, ◌∙◌, arith}
+use Rattle.std.proofs.Common.{◌≡◌, ℕ, ◌≤◌, true, false, ltb, leb, List, [], ◌∷◌, ℤ, negsuc, Ok, Err, Result, sum, Option, refl, ap, ◌∙◌, arith}
 use Rattle.std.proofs.lemmas.Int.{ints}
 use Rattle.std.proofs.lemmas.Bool.{le-leb, lt-ltb}
 use Rattle.law.specs.Settlements.{Among, Book, Rule, Settlement}
 use Rattle.law.specs.Steps.{Carried, answer, settle, balance, balance_is, accepted, refused, Step}
+use Rattle.assess.specs.declared.refusals.Refusal.{Refusal}
+use Rattle.desk.specs.Asked.{Asked}
 use Rattle.law.specs.Runs.{Met, Opened, owed, balance_told}
 use Rattle.desk.specs.Thirds.{thirds_by}
 
@@ -51,3 +53,7 @@ module _ (start : Book) (rule : Rule) (load : ℕ) (lo : 1 ≤ load) (o : Opened
     each_party b s 2 (omega arith, omega arith) v f ∙ owed_two rule load lo,
     each_party b s 3 (omega arith, omega arith) w g ∙ owed_three rule load lo,
   )
+
+  pub asked_thirds : (b : Book) → Step start (settle 1 1 (bill rule load)) accepted b → (r : Result (ℤ × ℤ × ℤ) Refusal) → Asked b r → r ≡ Ok (thirds_by rule load)
+  asked_thirds b s (Ok v) a = let t = three_balances b s v.0 v.1 v.2 a.0 a.1 a.2 in λ x. Ok (t.0 x, t.1 x, t.2 x)
+  asked_thirds b s (Err e) a = absurd (let n = s.left.parties_stay in let m = o.fresh.has_parties in omega arith)

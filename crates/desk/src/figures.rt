@@ -3,6 +3,7 @@ ghost use Rattle.std.specs.Prelude.{◌≡◌, ℕ, ◌≤◌, pos, negsuc, Ok};
 ghost use Rattle.book.specs.Books.{FitsIn};
 ghost use Rattle.desk.specs.Thirds.{thirds_by};
 
+use crate::balances::balances;
 use crate::tables::{USED_ENTRY, USED_SLOT};
 use assess::refusals::Refusal;
 use book::ledger::Book;
@@ -31,10 +32,7 @@ pub fn thirds<R: SharingRule>(
         reader: Listed,
     };
     book.settle(1, 1, &[load, load, load], &source, rule)?;
-    let one = book.balance(1)?;
-    let two = book.balance(2)?;
-    let three = book.balance(3)?;
-    Ok((one, two, three))
+    balances(book)
 }
 
 // The same over tables of the function's own, which held other things before.

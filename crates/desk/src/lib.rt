@@ -3,12 +3,14 @@
 
 ghost use Rattle.std.specs.Prelude.{◌≡◌, pos, ◌+ℤ◌, IfOk};
 
+mod balances;
 pub mod figures;
 pub mod lending;
 mod tables;
 #[cfg(test)]
 mod tests;
 
+use crate::balances::balances;
 use crate::tables::{USED_ENTRY, USED_SLOT};
 use assess::refusals::Refusal;
 use book::ledger::Book;
@@ -40,10 +42,7 @@ pub fn day(
     let _ = book.settle(3, 4, loads, &source, &Running);
     let _ = book.restate(1, 2, loads, &source, &Leftover);
     let _ = book.void(3, 4);
-    let one = book.balance(1)?;
-    let two = book.balance(2)?;
-    let three = book.balance(3)?;
-    Ok((one, two, three))
+    balances(book)
 }
 
 // The same over arrays.

@@ -15,6 +15,7 @@ pub struct Directory<'a, R: Keyed> {
 }
 
 // A copy asks nothing of the records, which are lent.
+// Kept: no copy can be derived for a generic struct that carries a fact.
 impl<'a, R: Keyed> Clone for Directory<'a, R> {
     ghost is_clone = { λ directory copy. copy ≡ directory };
 
@@ -70,23 +71,21 @@ fn counted<R: Keyed>(records: &[R]) -> Result<(), DirectoryRefusal>
 fn well_formed<R: Keyed>(records: &[R]) -> Result<(), DirectoryRefusal>
     ensures { Checked number_of place_of (form_check R.Keyed.kind records.now) result }
 {
-    match records.iter().position(|record| !record.is_formed()) {
-        Some(before) => Err(DirectoryRefusal::IllFormed(before + 1)),
-        None => Ok(()),
+    if let Some(before) = records.iter().position(|record| !record.is_formed()) {
+        return Err(DirectoryRefusal::IllFormed(before + 1));
     }
+    Ok(())
 }
 
 // Each key is above the one before.
 fn in_order<R: Keyed>(records: &[R]) -> Result<(), DirectoryRefusal>
     ensures { Checked number_of place_of (order_check R.Keyed.kind records.now) result }
 {
-    match records
-        .windows(2)
-        .position(|pair| !R::compare(&pair[0].key(), &pair[1].key()).is_lt())
-    {
-        Some(before) => Err(DirectoryRefusal::NotRising(before + 2)),
-        None => Ok(()),
+    let not_rising = |pair: &[R]| !R::compare(&pair[0].key(), &pair[1].key()).is_lt();
+    if let Some(before) = records.windows(2).position(not_rising) {
+        return Err(DirectoryRefusal::NotRising(before + 2));
     }
+    Ok(())
 }
 
 impl<'a, R: Keyed> Directory<'a, R> {
@@ -122,12 +121,10 @@ impl<'a, R: Keyed> Directory<'a, R> {
     pub fn find(&self, key: &R::Key) -> Option<usize>
         ensures { Found R.Keyed.kind self.now.records.now (R.Keyed.sense key.now) result }
     {
-        match self
+        let at = self
             .records
             .binary_search_by(|record| R::compare(&record.key(), key))
-        {
-            Ok(at) => Some(at + 1),
-            Err(_) => None,
-        }
+            .ok()?;
+        Some(at + 1)
     }
 }

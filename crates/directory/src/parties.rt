@@ -62,6 +62,7 @@ impl Keyed for PartyCode {
         *self
     }
 
+    // Kept: a derived order would compare what lies in the free places of the text, too.
     fn compare(left: &PartyCode, right: &PartyCode) -> Ordering {
         left.text()
             .cmp(right.text())
@@ -79,6 +80,7 @@ impl Keyed for PartyCode {
 }
 
 // The directory of parties by their codes; the place is the party's number.
+// Kept: the generic call under a name of its own, which promises more of codes.
 #[tactic(auto, using(crate::proofs::Codes::no_strangers))]
 pub fn parties<'a>(codes: &'a [PartyCode]) -> Result<Directory<'a, PartyCode>, DirectoryRefusal>
     ensures answer { Opened party_kind codes.now (λ d. d.records.now) result }

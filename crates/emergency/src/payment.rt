@@ -102,6 +102,7 @@ impl PricedSlices {
             discharging,
             charging,
             amount: nearest(owed.min(0), 1000),
+            // Kept: a cast, which is proved to fit; `try_from` would add a branch that cannot be taken.
             basis: (discharging.energy - charging.energy) as u32,
         }
     }

@@ -79,6 +79,7 @@ impl PricedSlices {
     }
 
     // The sum of the powers, each as long as it lasts.
+    // Kept: as the sum before it.
     pub(crate) fn work(&self, side: Side) -> i64
         ensures { result ≡ signed_sum (λ x. power side x *ℤ pos x.seconds) (slices_in self.now) }
     {

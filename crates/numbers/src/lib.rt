@@ -8,6 +8,7 @@ ghost use Rattle.numbers.specs.Signs.{signed_by};
 pub mod numbered;
 
 // The magnitude m with the sign of z.
+// Kept: casts, which are proved to fit; `try_from` would add a branch that cannot be taken.
 pub fn with_sign(z: i64, m: u64) -> i64
     requires { m ≤ unsigned_abs z }
     ensures { result ≡ signed_by z m }

@@ -12,6 +12,7 @@ pub trait Numbered {
         ensures { result ≡ numbered self.now };
 
     // The place of the first offender, counted from 1, or 0 where it has none.
+    // Kept: a number, since refusals are told by two numbers.
     fn place(&self) -> usize
         ensures { result ≡ placed self.now };
 }

@@ -6,7 +6,7 @@ use sharing::leftover::Leftover;
 use sharing::rule::SharingRule;
 use sharing::running::Running;
 
-#[derive(Clone, Copy)]
+#[derive(Clone, Copy, PartialEq, Eq, Debug)]
 pub struct Seasonal<'a> {
     pub months: &'a [u8],
     pub month: u8,

@@ -6,9 +6,10 @@ ghost use Rattle.outside.specs.Standby.{fee_line, fee_ranged};
 
 use charges::fault::{Cause, Fault};
 use charges::interface::LineSource;
+use charges::limits::{LAST_RESOURCE, MOST_CENTS};
 use numbers::weighed;
 
-#[derive(Clone, Copy)]
+#[derive(Clone, Copy, PartialEq, Eq, Debug)]
 pub struct Standby {
     // the number of the first resource; the others follow on
     pub first: u16,
@@ -28,13 +29,14 @@ impl Standby {
         ensures { result ≡ fee_line self.now n }
     {
         let resource = usize::from(self.first) + (n - 1);
-        if !(1..=9_999).contains(&resource) {
+        if !(1..=usize::from(LAST_RESOURCE)).contains(&resource) {
             return Err(Fault::in_source(Cause::Own(90), n, 1));
         }
         let amount = weighed(self.rate, self.power);
-        if !(-3_000_000_000..=3_000_000_000).contains(&amount) {
+        if amount.unsigned_abs() > MOST_CENTS {
             return Err(Fault::in_source(Cause::AmountBeyond, n, 0));
         }
+        // Kept: a cast, which is proved to fit; `try_from` would add a branch that cannot be taken.
         Ok((resource as u16, self.party, amount))
     }
 }

@@ -11,6 +11,7 @@ use memchr::memchr;
 use std::alloc::{AllocError, AllocFailed};
 
 // Why a record is not read: the first field that is wrong (0: the record as a whole), or want of memory.
+// Kept: 0 for the whole record, as it is told.
 #[derive(Clone, Copy, Debug, PartialEq, Eq)]
 pub enum Fault {
     Malformed(u32),

@@ -47,6 +47,7 @@ const GREATEST: u64 = 1 << 63;
 
 // The number that the text's digits write. None where something else stands in it, or nothing at all, or where the
 // number is above 2 ^ 63.
+// Kept: read by hand, since `parse` takes a plus, which is no number here.
 fn magnitude(text: &[u8]) -> Option<u64>
     ensures { result ≡ digits_in text.now }
 {

@@ -1,19 +1,17 @@
 -- A walk over a source's lines: what holds before line k + 1, and one line on.
-use Rattle.std.proofs.Common.{◌≡◌, ℕ, zero, suc, ◌+◌, ◌-◌, ◌*◌, ◌<◌, ◌≤◌, true, ◌&&◌, eqb, ltb, leb, ◌≢◌, List, [], ◌∷◌, length, get_or, take, drop, set, replicate, ℤ, pos, negsuc, ◌+ℤ◌, nat_abs, Some, None, Ok, Err, Option, sym, refl, ap, ◌∙◌, subst, inl, inr, ⊎_elim, add-one, arith, length-set, take_all, w64, SFits, to_z, of_z, below_more}
-use lib.ListN.{length-replicate}
+use Rattle.std.proofs.Common.{◌≡◌, ℕ, zero, suc, ◌+◌, ◌-◌, ◌*◌, ◌<◌, ◌≤◌, true, ◌&&◌, eqb, ltb, leb, ◌≢◌, List, [], ◌∷◌, length, get_or, take, drop, set, ℤ, pos, negsuc, ◌+ℤ◌, nat_abs, None, Ok, Err, Option, sym, refl, ap, ◌∙◌, subst, inl, inr, ⊎_elim, add-one, arith, length-set, take_all, w64, SFits, to_z, of_z, below_more}
 use Rattle.std.proofs.lemmas.List.FromFn.{length-map-range_with_len, get_or-map-range_with_len}
-use Rattle.std.proofs.lemmas.List.{drop_more, drop_all, get_or-set_same, get_or-set_other, get_or-replicate, ext_get_or}
+use Rattle.std.proofs.lemmas.List.{drop_more, drop_all, get_or-set_same, get_or-set_other, ext_get_or}
 use Rattle.std.proofs.lemmas.Int.{ints, to_z-of_z}
-use Rattle.std.proofs.lemmas.Bool.{and_parts, and_from, eq-eqb, ne_eqb, cases_eq, cases_Bool, leb-true, ltb-true, le-leb, lt-ltb, le-ltb, both_ways}
+use Rattle.std.proofs.lemmas.Bool.{and_parts, eq-eqb, ne_eqb, cases_eq, cases_Bool, leb-true, ltb-true, le-ltb}
 use Rattle.numbers.specs.Checks.{Each}
 use Rattle.numbers.specs.Sums.{signed_sum}
-use Rattle.numbers.proofs.Checks.{first_offender}
 use Rattle.numbers.proofs.Sums.{signed_sum_more}
 use Rattle.charges.specs.Lines.{Entry, Line, line_at, no_line, Sound}
 use Rattle.charges.specs.SourceLaws.{line_at_next, entry_ranged}
 use Rattle.walk.specs.declared.flaw.Flaw.{Flaw}
-use Rattle.walk.specs.declared.flaw.Flaw.TheVariants.{ManyLines, Faulty, Unfit}
-use Rattle.walk.specs.Flaws.{fits, fitting, first_flaw, answering, walked, resource_of, Fitting, Fit, AllFit, FirstAt, Flawed}
+use Rattle.walk.specs.declared.flaw.Flaw.TheVariants.{Unfit}
+use Rattle.walk.specs.Flaws.{fits, fitting, first_flaw, answering, walked, resource_of, Fitting, Fit, AllFit}
 use Rattle.walk.specs.Totals.{amount_of, amount_for, total_of, sum_for, party_sums}
 
 -- n parties; k lines are behind, the last of them of the resource before
@@ -30,21 +28,6 @@ none_yet : (f : Line → ℤ) (ls : List Line) → signed_sum f (take 0 ls) ≡ 
 none_yet f [] = refl
 none_yet f (l ∷ ls) = refl
 
-drop_none : (ls : List Line) → drop 0 ls ≡ ls
-drop_none [] = refl
-drop_none (l ∷ ls) = refl
-
-pub walk_start : (n : ℕ) (ls : List Line) (paid : List ℤ) → paid ≡ replicate n (pos 0) → Walk n ls 0 0 (pos 0) paid
-walk_start n ls paid e = record {
-  room = ap length e ∙ length-replicate n (pos 0);
-  ahead = ap (first_flaw n 0 1) (sym (drop_none ls));
-  fit = λ k h. absurd (omega arith);
-  last = refl;
-  summed = sym (none_yet amount_of ls);
-  parts = λ p low high. ap (λ xs. get_or xs (p - 1) (pos 0)) e ∙ get_or-replicate n (p - 1) (pos 0) (pos 0) (omega arith) ∙ sym (none_yet (amount_for p) ls);
-  bound = omega (arith, ints);
-}
-
 -- the next line is the head of what is left
 next_line : (ls : List Line) (k : ℕ) (l : Line) → k < length ls → l ≡ line_at ls (k + 1) → drop k ls ≡ l ∷ drop (k + 1) ls
 next_line ls k l h e = drop_more ls k (no_line (k + 1)) h ∙ ap (λ x. x ∷ drop (k + 1) ls) (sym (e ∙ line_at_next ls k))
@@ -59,9 +42,6 @@ fits_tells n before e t =
     let a = and_parts (leb 1 e.1 && leb e.1 n) (ltb before e.0) t in
     let b = and_parts (leb 1 e.1) (leb e.1 n) a.0 in
     (leb-true 1 e.1 b.0, leb-true e.1 n b.1, ltb-true before e.0 a.1)
-
-fits_from : (n before : ℕ) (e : Entry) → (1 ≤ e.1) × (e.1 ≤ n) × (before < e.0) → fits n before e ≡ true
-fits_from n before e h = and_from (leb 1 e.1 && leb e.1 n) (ltb before e.0) (and_from (leb 1 e.1) (leb e.1 n) (le-leb 1 e.1 h.0) (le-leb e.1 n h.1)) (lt-ltb before e.0 h.2)
 
 -- the next line's answer: an entry that fits, or a flaw of that line
 entry_line : (n before k : ℕ) (l : Line) (e : Entry) → Ok e ≡ fitting n before k l → (l ≡ Ok e) × (fits n before e ≡ true)
@@ -82,31 +62,6 @@ walked_by n ls o few e = rw (le-ltb 256 (length ls) few) (ap (λ x. answering x 
 
 cut : {n : ℕ} {ls : List Line} {k before : ℕ} {total : ℤ} {paid : List ℤ} → Walk n ls k before total paid → k < length ls → (l : Line) → l ≡ line_at ls (k + 1) → first_flaw n 0 1 ls ≡ first_flaw n before (k + 1) (l ∷ drop (k + 1) ls)
 cut {n} {ls} {k} {before} w lt l e = w.ahead ∙ ap (first_flaw n before (k + 1)) (next_line ls k l lt e)
-
--- that flaw is the first
-module _ {n : ℕ} {ls : List Line} {k before : ℕ} {total : ℤ} {paid : List ℤ} (w : Walk n ls k before total paid) (lt : k < length ls) (few : length ls ≤ 256) where
-  first_here : (Fit n ls k → ⊥) → FirstAt n ls (k + 1)
-  first_here bad = (few, omega arith, first_offender (Fit n ls) (length ls) k lt bad w.fit)
-
-  told : (l : Line) → l ≡ line_at ls (k + 1) → Fit n ls k → Fitting n before l
-  told l e h = subst (Fitting n before) (sym e) (subst (λ b. Fitting n b (line_at ls (k + 1))) (sym w.last) h)
-
-  flaw_at : (l : Line) → l ≡ line_at ls (k + 1) → (flaw : Flaw) → Err flaw ≡ fitting n before (k + 1) l → (first_flaw n 0 1 ls ≡ Some flaw) × Flawed n ls flaw
-  flaw_at (Err f) e flaw h =
-      let is : Faulty (k + 1) f ≡ flaw = cc in
-      subst (λ x. (first_flaw n 0 1 ls ≡ Some x) × Flawed n ls x) is (cut w lt (Err f) e, (first_here (told (Err f) e), sym e))
-  flaw_at (Ok x) e flaw h = ⊎_elim
-      (λ t. absurd (let g : Err flaw ≡ Ok x = h ∙ rw t in let z : ◌≡◌ {A = ℕ} 0 1 = cc in omega arith))
-      (λ t. let g : Err flaw ≡ Err (Unfit (k + 1)) = h ∙ rw t in
-      let is : Unfit (k + 1) ≡ flaw = cc in
-      subst (λ y. (first_flaw n 0 1 ls ≡ Some y) × Flawed n ls y) is
-      (cut w lt (Ok x) e ∙ rw t, (first_here (λ fit. both_ways (fits n before x) t (fits_from n before x (told (Ok x) e fit))), λ fault q. let v : Ok x ≡ Err fault = e ∙ q in let z : ◌≡◌ {A = ℕ} 0 1 = cc in omega arith)))
-      (cases_Bool (fits n before x))
-
-  pub walk_flaw : (flaw : Flaw) → Err flaw ≡ fitting n before (k + 1) (line_at ls (k + 1)) → (Err flaw ≡ walked n ls) × Flawed n ls flaw
-  walk_flaw flaw h =
-      let at = flaw_at (line_at ls (k + 1)) refl flaw h in
-      (sym (walked_by n ls (Some flaw) few at.0), at.1)
 
 -- a party's sum of the first lines is small
 for_small : (p : ℕ) (l : Line) → nat_abs (amount_of l) ≤ 3000000000 → nat_abs (amount_for p l) ≤ 3000000000
@@ -176,16 +131,10 @@ walk_end {n} {ls} {k} {before} {total} {paid} w all few =
           ap (λ j. get_or paid j (pos 0)) (sym party) ∙ mine ∙ ap (sum_for (i + 1)) (take_all _ _ past) ∙ sym (get_or-map-range_with_len (λ p. sum_for p ls) 1 n i (i + 1) (pos 0) (omega (arith, w.room)) (omega arith))),
     )
 
-pub too_many : (n : ℕ) (ls : List Line) → 256 < length ls → Err ManyLines ≡ walked n ls
-too_many n ls h = rw (lt-ltb 256 (length ls) h)
-
 -- line n, as it was answered and added up
 module _ {m n before : ℕ} {ls : List Line} {t : ℤ} {paid : List ℤ} (s : Sound ls) (few : length ls ≤ 256) (w : Walk m ls (n - 1) before t paid) (low : 1 ≤ n) (high : n ≤ length ls) where
   counted : n - 1 + 1 ≡ n
   counted = omega arith
-
-  pub line_flaw : (flaw : Flaw) → Err flaw ≡ fitting m before n (line_at ls n) → (Err flaw ≡ walked m ls) × Flawed m ls flaw
-  line_flaw flaw h = walk_flaw w (omega arith) few flaw (subst (λ j. Err flaw ≡ fitting m before j (line_at ls j)) (sym counted) h)
 
   module _ (r p at : ℕ) (a : ℤ) (ok : Ok (r, p, a) ≡ fitting m before n (line_at ls n)) (whole : SFits w64 a) (same : at ≡ p) where
     known : (Ok (r, p, a) ≡ line_at ls n) × (fits m before (r, p, a) ≡ true) × (nat_abs a ≤ 3000000000)

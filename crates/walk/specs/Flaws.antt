@@ -23,6 +23,11 @@ place_of (Unfit line) = line
 abbrev pub fits : ℕ → ℕ → Entry → Bool
 fits parties before e = (nat_le 1 e.1 && nat_le e.1 parties) && nat_lt before e.0
 
+-- the same where there may be no resource before
+abbrev pub fits_after : ℕ → Option ℕ → Entry → Bool
+fits_after parties None e = nat_le 1 e.1 && nat_le e.1 parties
+fits_after parties (Some before) e = fits parties before e
+
 -- line n after the resource before: its entry, or how it is flawed
 abbrev pub fitting : ℕ → ℕ → ℕ → Line → Result Entry Flaw
 fitting parties before n (Ok e) = cond (fits parties before e) (Ok e) (Err (Unfit n))

@@ -26,6 +26,7 @@ impl<'a> Book<'a> {
     }
 
     // Whether a slot stands, and one party's load, paid and charged in it.
+    // Kept: the slot by its two numbers, of which those that name none are refused.
     pub fn entry(&self, charge_type: u8, interval: usize, party: usize) -> Result<Told, Refusal>
         ensures { Step (model self.now) (asks_entry charge_type interval party) (said_entry result) (model self.now) }
     {
@@ -58,9 +59,8 @@ impl<'a> Book<'a> {
         ensures sum { result ≡ balance_at (model self.now) party (type_number slot.charge_type) slot.interval }
         ensures small { unsigned_abs result ≤ 18446744073709551616 }
     {
-        match self.kept(slot, party) {
-            Some(entry) => i128::from(entry.paid) + i128::from(entry.charged),
-            None => 0,
-        }
+        self.kept(slot, party).map_or(0, |entry| {
+            i128::from(entry.paid) + i128::from(entry.charged)
+        })
     }
 }

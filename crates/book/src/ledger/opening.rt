@@ -6,6 +6,7 @@ ghost use Rattle.book.specs.Model.{means};
 use super::Book;
 use crate::rows::{Entry, Slot};
 use assess::refusals::Refusal;
+use assess::slots::ChargeType;
 
 impl<'a> Book<'a> {
     // A book over two tables, not open yet: it has no parties and no intervals, so that every call on it is refused.
@@ -29,12 +30,12 @@ impl<'a> Book<'a> {
         if !(1..=64).contains(&parties) || !(1..=100).contains(&intervals) {
             return Err(Refusal::Size);
         }
-        let slots = 3 * intervals;
+        let slots = ChargeType::ALL.len() * intervals;
         let entries = slots * parties;
         if self.slots.len() < slots || self.entries.len() < entries {
             return Err(Refusal::Size);
         }
-        self.slots[..slots].fill(Slot { stands: false });
+        self.slots[..slots].fill(Slot::default());
         self.entries[..entries].fill(Entry::default());
         self.parties = parties;
         self.intervals = intervals;

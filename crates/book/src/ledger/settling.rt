@@ -37,6 +37,7 @@ fn write_row(entries: &mut [Entry], loads: &[u32], paid: &[i64], charged: &[i64]
 
 impl<'a> Book<'a> {
     // Settles a slot that does not stand.
+    // Kept: the slot by its two numbers, of which those that name none are refused.
     pub fn settle<S: LineSource, R: SharingRule>(
         &mut self,
         charge_type: u8,
@@ -51,6 +52,7 @@ impl<'a> Book<'a> {
     }
 
     // Settles a standing slot again, in place of what it held.
+    // Kept: the slot by its two numbers, of which those that name none are refused.
     pub fn restate<S: LineSource, R: SharingRule>(
         &mut self,
         charge_type: u8,
@@ -65,15 +67,15 @@ impl<'a> Book<'a> {
     }
 
     // Clears a standing slot.
+    // Kept: the slot by its two numbers, of which those that name none are refused.
     pub fn void(&mut self, charge_type: u8, interval: usize) -> Result<(), Refusal>
         ensures { Moves self.old (voiding charge_type interval) (said result) self.new }
     {
         let slot = SlotId::of(self.intervals, charge_type, interval)?;
         let at = self.place(slot);
         check_stands(self.slots[at].stands, true)?;
-        let from = at * self.parties;
-        let until = from + self.parties;
-        self.entries[from..until].fill(Entry::default());
+        let row = self.row(at);
+        self.entries[row].fill(Entry::default());
         self.slots[at].stands = false;
         Ok(())
     }
@@ -98,9 +100,8 @@ impl<'a> Book<'a> {
         let totals = self.checked(wanted, slot, loads, source, &mut paid)?;
         totals.charge(rule, loads, &mut charged);
         let at = self.place(slot);
-        let from = at * self.parties;
-        let until = from + self.parties;
-        write_row(&mut self.entries[from..until], loads, &paid, &charged);
+        let row = self.row(at);
+        write_row(&mut self.entries[row], loads, &paid, &charged);
         self.slots[at].stands = true;
         Ok(())
     }

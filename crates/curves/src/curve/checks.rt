@@ -4,6 +4,7 @@ ghost use Rattle.numbers.specs.Checks.{Passed, Answered, Checked};
 ghost use Rattle.curves.specs.Submission.{PowerIn, PriceIn, GoodCount, count_check, power_check, price_check, limit_check, checks, number_of, place_of};
 ghost use Rattle.curves.specs.Misfits.{AllFit, Misfit};
 
+use crate::limits::{LEAST_PRICE, MOST_POWER, MOST_PRICE, MOST_SUBMITTED};
 use crate::points::{CurveRefusal, Point, SubmittedCurve};
 
 // A row that passes every check.
@@ -16,13 +17,13 @@ pub(crate) struct SoundRow<'a> {
 fn is_power(power: i32) -> bool
     ensures { Decides result (PowerIn power) }
 {
-    (-2_000_000..=2_000_000).contains(&power)
+    (-MOST_POWER..=MOST_POWER).contains(&power)
 }
 
 fn is_price(price: i32) -> bool
     ensures { Decides result (PriceIn price) }
 {
-    (-25_000..=1_000_000).contains(&price)
+    (LEAST_PRICE..=MOST_PRICE).contains(&price)
 }
 
 // Whether a point's power is in its range and above the one before.
@@ -58,7 +59,7 @@ fn in_order<F: Fn(Option<Point>, Point) -> bool>(points: &[Point], fits: F) -> R
 fn counted(row: &SubmittedCurve) -> Result<(), CurveRefusal>
     ensures { Checked number_of place_of (count_check row.now) result }
 {
-    if !(1..=10).contains(&row.count) {
+    if !(1..=MOST_SUBMITTED).contains(&row.count) {
         return Err(CurveRefusal::Count);
     }
     Ok(())

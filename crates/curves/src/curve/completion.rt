@@ -1,5 +1,5 @@
 // Curves from submitted rows: the market's completion for resources without full-range curves.
-ghost use Rattle.std.specs.Prelude.{◌≡◌, ◌+◌, ◌-◌, ◌<◌, ◌++◌, length, is_ok};
+ghost use Rattle.std.specs.Prelude.{◌≡◌, ◌-◌, is_ok, option_to_list};
 ghost use Rattle.numbers.specs.Checks.{Answered, Unambiguous};
 ghost use Rattle.bounded.specs.Items.{items_of};
 ghost use Rattle.curves.specs.Shape.{at, InLimits, Shaped};
@@ -10,6 +10,7 @@ ghost use Rattle.curves.specs.Curves.{points_of};
 
 use crate::curve::Curve;
 use crate::curve::checks::SoundRow;
+use crate::limits::{LEAST_PRICE, MOST_POINTS};
 use crate::points::{CurveRefusal, Point, SubmittedCurve};
 use bounded::list::BoundedList;
 
@@ -30,17 +31,19 @@ impl SoundRow<'_> {
         self.row.listed()[self.row.count - 1]
     }
 
-    // Puts LSL at the least price behind the points, if it is below the first power.
-    fn push_low_end(&self, points: &mut BoundedList<Point, 13>)
-        requires { length (items_of points.old) < 13 }
-        ensures { items_of points.new ≡ items_of points.old ++ low_end self.now.row.now }
+    // LSL at the least price, if it is below the first power.
+    // Kept: an `if`, since of `then_some` the proof stayed open.
+    fn low_end(&self) -> Option<Point>
+        ensures { option_to_list result ≡ low_end self.now.row.now }
     {
         let lsl = self.row.lsl;
         if lsl < self.first().power {
-            points.push(Point {
+            Some(Point {
                 power: lsl,
-                price: -25_000,
-            });
+                price: LEAST_PRICE,
+            })
+        } else {
+            None
         }
     }
 
@@ -52,46 +55,50 @@ impl SoundRow<'_> {
         let first = self.first();
         Point {
             power: first.power - 1_000,
-            price: first.price.min(-24_999),
+            price: first.price.min(LEAST_PRICE + 1),
         }
     }
 
-    // Puts that point behind the points, if it is above LSL.
-    fn push_step_up(&self, points: &mut BoundedList<Point, 13>)
-        requires { length (items_of points.old) < 13 }
-        ensures { items_of points.new ≡ items_of points.old ++ step_up self.now.row.now }
+    // That point, if it is above LSL.
+    // Kept: an `if`, since of `then_some` the proof stayed open.
+    fn step_up(&self) -> Option<Point>
+        ensures { option_to_list result ≡ step_up self.now.row.now }
     {
         let step = self.step_point();
         if self.row.lsl < step.power {
-            points.push(step);
+            Some(step)
+        } else {
+            None
         }
     }
 
-    // Puts HSL at the last price behind the points, if it is above the last power.
-    fn push_high_end(&self, points: &mut BoundedList<Point, 13>)
-        requires { length (items_of points.old) < 13 }
-        ensures { items_of points.new ≡ items_of points.old ++ high_end self.now.row.now }
+    // HSL at the last price, if it is above the last power.
+    // Kept: an `if`, since of `then_some` the proof stayed open.
+    fn high_end(&self) -> Option<Point>
+        ensures { option_to_list result ≡ high_end self.now.row.now }
     {
         let hsl = self.row.hsl;
         let last = self.last();
         if last.power < hsl {
-            points.push(Point {
+            Some(Point {
                 power: hsl,
                 price: last.price,
-            });
+            })
+        } else {
+            None
         }
     }
 
     // The completed points.
-    fn completion(&self) -> BoundedList<Point, 13>
+    fn completion(&self) -> BoundedList<Point, MOST_POINTS>
         ensures list { items_of result ≡ completed self.now.row.now }
         ensures shape { Shaped (items_of result) }
     {
         let mut points = BoundedList::new(Point { power: 0, price: 0 });
-        self.push_low_end(&mut points);
-        self.push_step_up(&mut points);
+        points.extend_from_slice(self.low_end().as_slice());
+        points.extend_from_slice(self.step_up().as_slice());
         points.extend_from_slice(self.row.listed());
-        self.push_high_end(&mut points);
+        points.extend_from_slice(self.high_end().as_slice());
         points
     }
 }

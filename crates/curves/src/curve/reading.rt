@@ -10,6 +10,7 @@ use numbers::weighed;
 use rounding::nearest;
 
 // The nearest cent on the straight line from a to b.
+// Kept: a cast, which is proved to fit; `try_from` would add a branch that cannot be taken.
 fn on_line(a: Point, b: Point, power: i32) -> i32
     requires from { (InLimits a) × (InLimits b) }
     requires up { (a.power <ℤ b.power) × (a.price ≤ℤ b.price) }

@@ -4,6 +4,7 @@ ghost use Rattle.numbers.specs.Checks.{Answered, Unambiguous};
 ghost use Rattle.quarters.specs.Slices.{Lasting, IsQuarter, checks};
 ghost use Rattle.quarters.specs.Quarters.{slices_of, number_of, place_of};
 
+use crate::limits::{MOST_SLICES, SECONDS};
 use crate::quarter::QuarterHour;
 use bounded::list::BoundedList;
 use numbers::numbered::Numbered;
@@ -38,7 +39,7 @@ impl Numbered for QuarterRefusal {
 fn all_last(seconds: &[u16]) -> bool
     ensures { Decides result (Lasting seconds.now) }
 {
-    seconds.iter().all(|s| (1..=900).contains(s))
+    seconds.iter().all(|s| (1..=SECONDS).contains(s))
 }
 
 // The sum of a few durations.
@@ -53,7 +54,9 @@ fn sum_of(seconds: &[u16]) -> u32
 fn is_quarter(seconds: &[u16]) -> bool
     ensures { Decides result (IsQuarter seconds.now) }
 {
-    (1..=15).contains(&seconds.len()) && all_last(seconds) && sum_of(seconds) == 900
+    (1..=MOST_SLICES).contains(&seconds.len())
+        && all_last(seconds)
+        && sum_of(seconds) == u32::from(SECONDS)
 }
 
 impl QuarterHour {
@@ -75,7 +78,7 @@ impl QuarterHour {
         ensures { slices_of result ≡ 900 ∷ [] }
     {
         let mut slices = BoundedList::new(0);
-        slices.push(900);
+        slices.push(SECONDS);
         QuarterHour { slices }
     }
 

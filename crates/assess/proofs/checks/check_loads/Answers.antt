@@ -7,7 +7,7 @@ returns-in-Some c =
     let h : (c.in-Some.before < length c.args.loads.now) × (20000000 < get_or c.args.loads.now c.in-Some.before 0) × ((k : ℕ) → k < c.in-Some.before → get_or c.args.loads.now k 0 ≤ 20000000) = search rules in
     sym (loads_until 1 c.in-Some.before c.args.loads.now h.0 h.1 h.2)
 
-pub returns-in-None : goal.returns-in-None
-returns-in-None c =
+pub returns : goal.returns
+returns c =
     let h : (k : ℕ) → k < length c.args.loads.now → get_or c.args.loads.now k 0 ≤ 20000000 = search rules in
     sym (loads_none 1 c.args.loads.now h)

@@ -16,7 +16,7 @@ returns-in_ok-resource g c =
     let end = last_line (g.S.LineSource.sound c.args.source.now) (omega arith) c.loop-n.invariant.walk (omega arith) (omega arith) c.in_ok-resource.resource c.in_ok-resource.party _ c.in_ok-resource.amount c.in_ok-resource.ensures (search rules) c.from.ensures (omega arith) in
     record { answer = end.0; words = end.1; paid = end.2 }
 
-pub returns-else-count-gt256 : goal.returns-else-count-gt256
-returns-else-count-gt256 g c =
+pub returns-else-count-gt-MOST_LINES : goal.returns-else-count-gt-MOST_LINES
+returns-else-count-gt-MOST_LINES g c =
     let end = walk_end c.loop-n.invariant.walk (omega arith) (omega arith) in
     record { answer = end.0; words = end.1; paid = end.2 }
