@@ -7,7 +7,8 @@ use Rattle.std.proofs.lemmas.List.FromFn.{length-map-range_with_len, get_or-map-
 use Rattle.std.proofs.ByRecursion.{All-get_or}
 use Rattle.std.proofs.lemmas.List.{get_or-take, get_or_past}
 use Rattle.std.proofs.lemmas.Bool.{cases_lt, or_parts, ltb-false}
-use Rattle.numbers.proofs.Integers.{lt_z_false}
+use Rattle.numbers.specs.Ranges.{outside, strays}
+use Rattle.numbers.proofs.Ranges.{inside, all_small}
 use Rattle.curves.specs.declared.points.Point.{Point}
 use Rattle.curves.specs.Reading.{price_at}
 use Rattle.curves.proofs.Bounds.{Cheap, price_cheap}
@@ -16,7 +17,7 @@ use Rattle.emergency.specs.declared.row.EmergencyRow.{EmergencyRow}
 use Rattle.emergency.specs.declared.row.Field.{Field}
 use Rattle.emergency.specs.declared.row.Field.TheVariants.{Resource, SettlementPointPrice, Generation, Charging, BasePoint, Hour, Cap}
 use Rattle.emergency.specs.declared.slices.Slice.{Slice}
-use Rattle.emergency.specs.Fields.{outside, strays, bad_field, Near, Fitting}
+use Rattle.emergency.specs.Fields.{bad_field, Fitting}
 use Rattle.emergency.specs.Payments.{slice, sliced}
 use Rattle.emergency.specs.Weights.{Limited}
 
@@ -25,26 +26,6 @@ passed : (b : Bool) (field : Field) (rest : Option Field) → cond b (Some field
 passed true field rest e = cc
 passed false field rest e = (refl, e)
 
-inside : (low high x : ℤ) → outside low high x ≡ false → (low ≤ℤ x) × (x ≤ℤ high)
-inside low high x e = let p = or_parts (lt_z x low) (lt_z high x) e in (lt_z_false x low p.0, lt_z_false high x p.1)
-
--- a search that found none passed each
-none_of : {X : Type 0} (p : X → Bool) (xs : List X) → list_any p xs ≡ false → AllByRecursion (λ x. p x ≡ false) xs
-none_of p [] e = tt
-none_of p (x ∷ xs) e = let parts = or_parts (p x) (list_any p xs) e in (parts.0, none_of p xs parts.1)
-
-all_near : (m : ℕ) (bases : List ℤ) → strays (take m bases) ≡ false → Near m bases
-all_near m bases e k h =
-    ⊎_elim
-    (λ lt. let all = none_of (outside (negsuc 1999999) (pos 2000000)) (take m bases) e in
-    let here = All-get_or (λ b. outside (negsuc 1999999) (pos 2000000) b ≡ false) (take m bases) k (pos 0) lt all in
-    let w = inside (negsuc 1999999) (pos 2000000) (get_or (take m bases) k (pos 0)) here in
-    let small : nat_abs (get_or (take m bases) k (pos 0)) ≤ 2000000 = omega (arith, ints) in
-    subst (λ z. nat_abs z ≤ 2000000) (get_or-take m bases k (pos 0) h) small)
-    (λ past. let z : nat_abs (get_or (take m bases) k (pos 0)) ≤ 2000000 = subst (λ y. nat_abs y ≤ 2000000) (sym (get_or_past (take m bases) k (pos 0) past)) (omega arith) in
-    subst (λ y. nat_abs y ≤ 2000000) (get_or-take m bases k (pos 0) h) z)
-    (cases_lt k (length (take m bases)))
-
 pub fitting : (m : ℕ) (row : EmergencyRow) → bad_field m row ≡ None → Fitting m row
 unfolding bad_field
 fitting m row e =
@@ -52,7 +33,7 @@ fitting m row e =
     let p2 = passed (outside (negsuc 99999) (pos 1000000) row.spp) SettlementPointPrice _ p1.1 in
     let p3 = passed (ltb 500000 row.generation) Generation _ p2.1 in
     let p4 = passed (outside (negsuc 499999) (pos 0) row.charging) Charging _ p3.1 in
-    let p5 = passed (strays (take m row.bases)) BasePoint _ p4.1 in
+    let p5 = passed (strays (negsuc 1999999) (pos 2000000) (take m row.bases)) BasePoint _ p4.1 in
     let p6 = passed (ltb row.hour 1 || ltb 25 row.hour) Hour _ p5.1 in
     let p7 = passed (outside (pos 0) (pos 1000000) row.cap) Cap None p6.1 in
     let r = or_parts (ltb row.resource 1) (ltb 9999 row.resource) p1.0 in
@@ -66,7 +47,7 @@ fitting m row e =
       generation = ltb-false 500000 row.generation p3.0;
       least = c.0;
       below = c.1;
-      near = all_near m row.bases p5.0;
+      near = all_small (negsuc 1999999) (pos 2000000) 2000000 m row.bases (omega (arith, ints)) (omega (arith, ints)) p5.0;
       free = k.0;
       capped = k.1;
     }

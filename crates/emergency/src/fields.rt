@@ -1,14 +1,15 @@
 // The limits of a row's fields.
-ghost use Rattle.std.specs.Prelude.{◌≡◌, length, MatchResult};
+ghost use Rattle.std.specs.Prelude.{◌≡◌, length, pos, negsuc, MatchResult};
 ghost use Rattle.quarters.specs.Quarters.{slices_of};
-ghost use Rattle.emergency.specs.Fields.{strays as is_straying, bad_field};
+ghost use Rattle.numbers.specs.Ranges.{strays as is_straying};
+ghost use Rattle.emergency.specs.Fields.{bad_field};
 
 use crate::row::{EmergencyRow, Field};
 use quarters::quarter::QuarterHour;
 
 // Whether some base point is outside its limits.
 fn strays(bases: &[i32]) -> bool
-    ensures { result ≡ is_straying bases.now }
+    ensures { result ≡ is_straying (negsuc 1999999) (pos 2000000) bases.now }
 {
     bases
         .iter()

@@ -1,3 +1,4 @@
 pub mod Integers
 pub mod Sums
 pub mod Checks
+pub mod Ranges

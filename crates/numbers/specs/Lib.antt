@@ -1,3 +1,4 @@
 pub mod Signs
 pub mod Sums
 pub mod Checks
+pub mod Ranges
