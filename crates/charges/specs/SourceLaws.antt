@@ -49,6 +49,14 @@ at_none ys (suc m) none (inr h) = get_or_past ys m none (omega arith)
 pub at_norow : {X Y : Type 0} (f : ℕ → X → Y) (xs : List X) (n : ℕ) (none : Y) → (n < 1) ⊎ (length xs < n) → slice_index_or (none ∷ numbered f 1 xs) n none ≡ none
 at_norow f xs n none h = at_none (numbered f 1 xs) n none (rw length_numbered h)
 
+-- a source without a line is within the limits
+pub none_sound : Sound []
+none_sound = record { ranged = at }
+  where
+    at : (n : ℕ) → Ranged (line_at [] n)
+    at zero = tt
+    at (suc m) = tt
+
 pub line_at_next : (ls : List Line) (i : ℕ) → line_at ls (i + 1) ≡ slice_index_or ls i (no_line (i + 1))
 line_at_next ls i = rw add-one
 

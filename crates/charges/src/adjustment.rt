@@ -77,6 +77,17 @@ impl<S: LineSource> Adjustment<S> {
         }
     }
 
+    // The same figures over another source.
+    pub fn onto<T: LineSource>(&self, below: T) -> Adjustment<T>
+        ensures below { result.below ≡ below }
+        ensures table { result.table ≡ self.now.table }
+    {
+        Adjustment {
+            below,
+            table: self.table,
+        }
+    }
+
     // The resource's figure, 0 if none is set.
     pub fn figure(&self, resource: u16) -> i64
         ensures { result ≡ figure_in (held_by self.now.table) resource }

@@ -38,6 +38,17 @@ impl<S: LineSource> Denial<S> {
         }
     }
 
+    // The same denials over another source.
+    pub fn onto<T: LineSource>(&self, below: T) -> Denial<T>
+        ensures below { result.below ≡ below }
+        ensures table { result.table ≡ self.now.table }
+    {
+        Denial {
+            below,
+            table: self.table,
+        }
+    }
+
     // Whether the resource is denied.
     pub fn denies(&self, resource: u16) -> bool
         ensures { result ≡ is_some (held_by self.now.table resource) }

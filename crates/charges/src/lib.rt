@@ -9,6 +9,7 @@ pub mod figure;
 pub mod interface;
 pub mod limits;
 pub mod listed;
+pub mod nolines;
 pub mod period;
 pub mod piled;
 pub mod reader;

@@ -10,7 +10,7 @@ pub mod settings;
 // Kept: a fixed table, so that a layer allocates nothing.
 // Kept: no model, since a refused setting promises that the layer is equal to what it was, and as a map it would promise
 // the same look-ups only.
-#[derive(Drop)]
+#[derive(Clone, Copy)]
 pub struct Table {
     // each place holds a figure, or is free
     rows: [Option<Figure>; PLACES],
