@@ -1,9 +1,10 @@
 -- The items of a list are read one after another, and their numbers put behind those that are there.
-use Rattle.std.proofs.Common.{◌≡◌, ℕ, ◌+◌, Bool, not, List, [], ◌∷◌, ◌++◌, map, length, take, drop, Some, None, Option, Bor, sym, refl, ap, ◌∙◌, arith}
+use Rattle.std.proofs.Common.{◌≡◌, ℕ, ◌+◌, ◌-◌, ◌≤◌, Bool, not, List, [], ◌∷◌, ◌++◌, map, length, take, drop, Some, None, Option, Bor, sym, refl, ap, ◌∙◌, arith}
+use Rattle.std.proofs.Math.Seq.{take-append_seam, take-append-add}
 use Rattle.std.proofs.lemmas.List.{drop_more, drop_all, take_all}
 use Rattle.memchr.specs.Find.{IsFirstByte, is_byte}
 use Rattle.text.specs.Text.{front, trimmed, cut, and_then}
-use Rattle.text.specs.Lists.{semicolon, numbers_in}
+use Rattle.text.specs.Lists.{semicolon, numbers_in, leading}
 use Rattle.text.proofs.Fronts.{front_first, past_first, first_byte}
 use Rattle.text.proofs.Pieces.{behind, cut_front}
 
@@ -33,6 +34,17 @@ module _ {A : Type 0} (kind : Bool → ℕ → Option A) where
   wanted None = Some []
   wanted (Some s) = numbers_in kind (map trimmed (cut semicolon s.now))
 
+  -- those of them before the first fault
+  abbrev pub ahead : Option (Bor (List ℕ)) → List A
+  ahead None = []
+  ahead (Some s) = leading kind (map trimmed (cut semicolon s.now))
+
 -- numbers behind those that are there
 abbrev pub onto : {A : Type 0} → List A → Option (List A) → Option (List A)
 onto ys o = and_then o (λ xs. Some (ys ++ xs))
+
+-- where reading stops, what was put behind the numbers before are the first of those that there are
+pub first_of : {A : Type 0} (before numbers after rest : List A) → before ++ numbers ≡ after ++ rest → length before ≤ length after → after ≡ before ++ take (length after - length before) numbers
+first_of before numbers after rest e h =
+    let n : length before + (length after - length before) ≡ length after = omega arith in
+    sym (take-append_seam after rest) ∙ ap (take (length after)) (sym e) ∙ ap (λ k. take k (before ++ numbers)) (sym n) ∙ take-append-add before numbers (length after - length before)

@@ -1,5 +1,5 @@
 -- Lists of numbers in a field.
-use Rattle.std.specs.Prelude.{◌≡◌, ℕ, ◌≤◌, Bool, List, [], ◌∷◌, ◌++◌, map, Some, None, Ok, Err, Option, Result, ◌==◌}
+use Rattle.std.specs.Prelude.{◌≡◌, ℕ, ◌≤◌, Bool, List, [], ◌∷◌, ◌++◌, map, take, Some, None, Ok, Err, Option, Result, ◌==◌}
 use Rattle.text.specs.declared.fields.Fault.{Fault}
 use Rattle.text.specs.declared.fields.Fault.TheVariants.{Malformed, Memory}
 use Rattle.text.specs.Text.{trimmed, cut, and_then}
@@ -29,3 +29,24 @@ abbrev pub ListRead : {A X : Type 0} → Option (List A) → ℕ → ℕ → Lis
 ListRead {A} list field room before after size (Ok _) = (xs : List A) × (list ≡ Some xs) × (after ≡ before ++ xs)
 ListRead list field room before after size (Err (Malformed k)) = (list ≡ None) × (k ≡ field)
 ListRead list field room before after size (Err Memory) = room ≤ size
+
+-- x before the others, where there is an x
+abbrev pub lead : {A : Type 0} → Option A → List A → List A
+lead None xs = []
+lead (Some x) xs = x ∷ xs
+
+-- the numbers that the first texts write, up to a text that writes none
+abbrev pub leading : {A : Type 0} → (Bool → ℕ → Option A) → List (List ℕ) → List A
+leading kind [] = []
+leading kind (t ∷ ts) = lead (number_in kind t) (leading kind ts)
+
+-- the numbers in a field's text up to the first fault; none where no field is left
+abbrev pub front_in : {A : Type 0} → (Bool → ℕ → Option A) → Option (List ℕ) → List A
+front_in kind None = []
+front_in kind (Some text) = leading kind (map trimmed (cut semicolon text))
+
+-- Where reading stopped, nothing that stood `before` is lost: behind it stand the numbers up to the fault, or the first of them where the room was full.
+abbrev pub Stopped : {A X : Type 0} → List A → List A → List A → Result X Fault → Type 0
+Stopped numbers before after (Ok _) = Unit {0}
+Stopped numbers before after (Err (Malformed k)) = after ≡ before ++ numbers
+Stopped numbers before after (Err Memory) = (n : ℕ) × (after ≡ before ++ take n numbers)

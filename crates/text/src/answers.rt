@@ -49,16 +49,13 @@ impl Answers {
         self.put(Buffer::new().format(z).as_bytes())
     }
 
-    // What `write!` and `writeln!` call.
+    // What `write!` and `writeln!` call. The words are made apart, so that the text stays where one of them finds no memory.
     pub fn write_fmt<D: Display + Drop>(&mut self, words: D) -> Result<(), AllocError>
         ensures items { OnOk result (AppendsText self.old.text.items self.new.text.items (D.output words)) }
+        ensures unchanged { OnErr result (self.new.text.items ≡ self.old.text.items) }
     {
-        let whole = self.text.len();
-        if Write::write_fmt(self, words).is_err() {
-            self.text.truncate(whole);
-            return Err(AllocError);
-        }
-        Ok(())
+        let words = String::format(*self.text.allocator(), words)?;
+        self.put(words.as_bytes())
     }
 
     // Makes the text empty.
@@ -78,6 +75,7 @@ impl Write for Answers {
         ensures bytes { WriteAppends (Some self.old.text.items) (Some self.new.text.items) result words.now }
         ensures whole { IfOk result (λ n. n ≡ length words.now) }
         ensures unchanged { OnErr result (self.new.text.items ≡ self.old.text.items) }
+        ensures room { vec_len self.old.text + length words.now ≤ vec_capacity self.old.text → is_ok result ≡ true }
     {
         self.put(words)?;
         Ok(words.len())
@@ -87,6 +85,7 @@ impl Write for Answers {
         ensures bytes { Keeps (Some self.old.text.items) (Some self.new.text.items) }
         ensures ok { IsOk result }
     {
+        // Nothing is held back.
         Ok(())
     }
 }

@@ -30,7 +30,7 @@ impl<T: Drop> From<AllocFailed<T>> for Fault {
     ghost from_gives = { λ _ f. f ≡ Memory };
 
     fn from(_e: AllocFailed<T>) -> Fault {
-        Fault::Memory
+        Fault::from(AllocError)
     }
 }
 

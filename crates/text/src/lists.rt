@@ -1,8 +1,8 @@
 // Lists of numbers in a field.
-ghost use Rattle.std.specs.Prelude.{◌≡◌, ◌<◌, [], ◌∷◌, length, is_ok, MatchOption, vec_len, vec_capacity};
+ghost use Rattle.std.specs.Prelude.{◌≡◌, ◌<◌, [], ◌∷◌, length, is_ok, Some, MatchOption, vec_len, vec_capacity};
 ghost use Rattle.text.specs.Text.{cut, and_then};
 ghost use Rattle.text.specs.Fields.{next_text, Passes};
-ghost use Rattle.text.specs.Lists.{semicolon, list_in, ListRead};
+ghost use Rattle.text.specs.Lists.{semicolon, list_in, ListRead, front_in, Stopped};
 
 use crate::blanks;
 use crate::fields::{Fault, Fields};
@@ -21,7 +21,8 @@ fn first_item(text: &[u8]) -> (&[u8], Option<&[u8]>)
 
 // Puts the numbers of the list that the field's text writes behind those of `into`.
 fn read_list<T: Number>(field: u32, text: &[u8], into: &mut Vec<T>) -> Result<(), Fault>
-    ensures { ListRead (list_in T.Number.kind text.now) field (vec_capacity into.old) into.old.items into.new.items (vec_len into.new) result }
+    ensures value { ListRead (list_in T.Number.kind text.now) field (vec_capacity into.old) into.old.items into.new.items (vec_len into.new) result }
+    ensures stopped { Stopped (front_in T.Number.kind (Some text.now)) into.old.items into.new.items result }
 {
     if text.is_empty() {
         return Ok(());
@@ -42,6 +43,7 @@ impl<'t> Fields<'t> {
     // `into` holds what was read before the fault.
     pub fn list<T: Number>(&mut self, field: u32, into: &mut Vec<T>) -> Result<(), Fault>
         ensures value { ListRead (and_then (next_text self.old.rest.now) (list_in T.Number.kind)) field (vec_capacity into.old) into.old.items into.new.items (vec_len into.new) result }
+        ensures stopped { Stopped (front_in T.Number.kind (next_text self.old.rest.now)) into.old.items into.new.items result }
         ensures passes { Passes (is_ok result) self.old.rest.now self.new.rest.now }
     {
         let mut behind = *self;
