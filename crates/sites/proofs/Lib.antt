@@ -1,0 +1,4 @@
+pub mod Values
+pub mod Totals
+pub mod Rows
+pub mod Splits

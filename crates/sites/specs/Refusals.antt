@@ -1,0 +1,69 @@
+-- What a site must keep to, and how it is refused.
+use Rattle.std.specs.Prelude.{◌≡◌, ℕ, ◌<◌, ◌≤◌, Bool, false, ◌||◌, List, [], ◌∷◌, length, take, pos, negsuc, nat_lt, sum}
+use Rattle.std.specs.List.{list_any}
+use Rattle.numbers.specs.Checks.{Check, whole}
+use Rattle.numbers.specs.Ranges.{outside, strays}
+use Rattle.quarters.specs.Quarters.{slices_of}
+use Rattle.sites.specs.declared.refusal.SiteRefusal.{SiteRefusal}
+use Rattle.sites.specs.declared.refusal.SiteRefusal.TheVariants.{Counts, ValueOutside, NoReading, ListTooShort}
+use Rattle.sites.specs.declared.site.Adders.{Adders}
+use Rattle.sites.specs.declared.site.Bus.{Bus}
+use Rattle.sites.specs.declared.site.Site.{Site}
+use Rattle.sites.specs.declared.site.SiteUnit.{SiteUnit}
+use Rattle.sites.specs.Sites.{readings}
+
+-- 1 to 8 buses, and 1 to 8 units
+abbrev pub GoodCounts : Site → Type 0
+GoodCounts site = (1 ≤ length site.buses.now) × (length site.buses.now ≤ 8) × (1 ≤ length site.units.now) × (length site.units.now ≤ 8)
+
+-- how many slices the site's quarter hour has
+abbrev pub slice_count : Site → ℕ
+slice_count site = length (slices_of site.quarter.now)
+
+-- the energy of a bus is beyond ±10,000 kWh, or its price in one of the first m slices outside −100,000 to 1,000,000 cents per MWh
+abbrev pub bus_strays : ℕ → Bus → Bool
+bus_strays m bus = outside (negsuc 9999) (pos 10000) bus.energy || strays (negsuc 99999) (pos 1000000) (take m bus.prices)
+
+-- some bus strays so
+abbrev pub buses_stray : ℕ → List Bus → Bool
+buses_stray m buses = list_any (bus_strays m) buses
+
+-- an adder of one of the first m slices is outside 0 to 1,000,000 cents per MWh
+abbrev pub adders_stray : ℕ → Adders → Bool
+adders_stray m adders = strays (pos 0) (pos 1000000) (take m adders.first) || strays (pos 0) (pos 1000000) (take m adders.second)
+
+-- a unit's resource is outside 1 to 9,999, or its reading above 500,000
+abbrev pub unit_strays : SiteUnit → Bool
+unit_strays unit = (nat_lt unit.resource 1 || nat_lt 9999 unit.resource) || nat_lt 500000 unit.reading
+
+-- some unit strays so
+abbrev pub units_stray : List SiteUnit → Bool
+units_stray units = list_any unit_strays units
+
+-- a value or a resource of the site is outside its limits
+abbrev pub site_strays : Site → Bool
+site_strays site =
+    (buses_stray (slice_count site) site.buses.now || adders_stray (slice_count site) site.adders.now) || units_stray site.units.now
+
+-- the checks of a site that is settled into a list of so many rows, in order: the counts, the values and resources, the sum of the readings, the room
+abbrev pub checks : Site → ℕ → List Check
+checks site room =
+    whole 51 (GoodCounts site)
+    ∷ whole 52 (site_strays site ≡ false)
+    ∷ whole 53 (0 < sum (readings site.units.now))
+    ∷ whole 54 (length site.units.now ≤ room)
+    ∷ []
+
+-- a refusal's number
+abbrev pub number_of : SiteRefusal → ℕ
+number_of Counts = 51
+number_of ValueOutside = 52
+number_of NoReading = 53
+number_of ListTooShort = 54
+
+-- its place: none is told
+abbrev pub place_of : SiteRefusal → ℕ
+place_of Counts = 0
+place_of ValueOutside = 0
+place_of NoReading = 0
+place_of ListTooShort = 0
