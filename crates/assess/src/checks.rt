@@ -3,6 +3,7 @@ ghost use Rattle.std.specs.Prelude.{◌≡◌, true, not, length, if◌then◌el
 ghost use Rattle.law.specs.Steps.{holds_or, loads_from, among};
 ghost use Rattle.assess.specs.Refusals.{raised};
 
+use crate::limits::{MOST_LOAD, MOST_TOTAL};
 use crate::refusals::Refusal;
 
 pub fn check_party(parties: usize, party: usize) -> Result<(), Refusal>
@@ -26,7 +27,7 @@ pub fn check_count(parties: usize, loads: &[u32]) -> Result<(), Refusal>
 pub fn check_loads(loads: &[u32]) -> Result<(), Refusal>
     ensures { raised result ≡ loads_from 1 loads.now }
 {
-    if let Some(before) = loads.iter().position(|load| *load > 20_000_000) {
+    if let Some(before) = loads.iter().position(|load| *load > MOST_LOAD) {
         return Err(Refusal::Load(before + 1));
     }
     Ok(())
@@ -42,9 +43,9 @@ pub fn check_stands(stands: bool, wanted: bool) -> Result<(), Refusal>
 }
 
 pub fn check_total(total: i64) -> Result<(), Refusal>
-    ensures { raised result ≡ holds_or (nat_le (unsigned_abs total) 5000000000) 37 0 }
+    ensures { raised result ≡ holds_or (nat_le (unsigned_abs total) MOST_TOTAL) 37 0 }
 {
-    if !(-5_000_000_000..=5_000_000_000).contains(&total) {
+    if total.unsigned_abs() > MOST_TOTAL {
         return Err(Refusal::Total);
     }
     Ok(())

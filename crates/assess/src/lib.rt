@@ -3,5 +3,6 @@
 
 pub mod assessing;
 pub mod checks;
+pub mod limits;
 pub mod refusals;
 pub mod slots;

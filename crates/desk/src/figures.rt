@@ -1,7 +1,11 @@
 // Three equal loads, one line of -100 for the first party.
-ghost use Rattle.std.specs.Prelude.{◌≡◌, ℕ, ◌≤◌, pos, negsuc, Ok};
-ghost use Rattle.book.specs.Books.{FitsIn};
-ghost use Rattle.desk.specs.Thirds.{thirds_by};
+ghost use Rattle.std.specs.Prelude.{◌≡◌, [], ◌∷◌, pos, negsuc, OnOk};
+ghost use Rattle.numbers.specs.Checks.{Answered};
+ghost use Rattle.law.specs.Runs.{MetCalls};
+ghost use Rattle.law.specs.Steps.{settle as settling};
+ghost use Rattle.assess.specs.Refusals.{number_of, place_of};
+ghost use Rattle.book.specs.Books.{model};
+ghost use Rattle.desk.specs.Thirds.{bill, thirds_by, load_checks, thirds_checks};
 
 use crate::balances::balances;
 use crate::tables::{USED_ENTRY, USED_SLOT};
@@ -13,13 +17,14 @@ use sharing::leftover::Leftover;
 use sharing::rule::SharingRule;
 use sharing::running::Running;
 
-// The three balances under any rule.
+// The three balances under any rule, and the book that they are read from.
 pub fn thirds<R: SharingRule>(
     book: &mut Book,
     load: u32,
     rule: &R,
 ) -> Result<(i128, i128, i128), Refusal>
-    ensures { FitsIn 3 1 book.old → 1 ≤ load → load ≤ 20000000 → result ≡ Ok (thirds_by (R.SharingRule.meaning rule.now) load) }
+    ensures answer { Answered (thirds_checks book.old load) number_of place_of (λ v. v ≡ thirds_by (R.SharingRule.meaning rule.now) load) result }
+    ensures met { OnOk result (MetCalls 3 1 (settling 1 1 (bill (R.SharingRule.meaning rule.now) load) ∷ []) (model book.new)) }
 {
     book.open(3, 1)?;
     let rows = [ListedRow {
@@ -37,7 +42,7 @@ pub fn thirds<R: SharingRule>(
 
 // The same over tables of the function's own, which held other things before.
 fn thirds_afresh<R: SharingRule>(load: u32, rule: &R) -> Result<(i128, i128, i128), Refusal>
-    ensures { 1 ≤ load → load ≤ 20000000 → result ≡ Ok (thirds_by (R.SharingRule.meaning rule.now) load) }
+    ensures { Answered (load_checks load) number_of place_of (λ v. v ≡ thirds_by (R.SharingRule.meaning rule.now) load) result }
 {
     let mut slots = [USED_SLOT; 3];
     let mut entries = [USED_ENTRY; 9];
@@ -48,7 +53,7 @@ fn thirds_afresh<R: SharingRule>(load: u32, rule: &R) -> Result<(i128, i128, i12
 // By running: -67, 33, 34.
 #[tactic(auto, using(crate::proofs::Shares::thirds_running))]
 pub fn thirds_running(load: u32) -> Result<(i128, i128, i128), Refusal>
-    ensures { 1 ≤ load → load ≤ 20000000 → result ≡ Ok (negsuc 66, pos 33, pos 34) }
+    ensures { Answered (load_checks load) number_of place_of (λ v. v ≡ (negsuc 66, pos 33, pos 34)) result }
 {
     thirds_afresh(load, &Running)
 }
@@ -56,7 +61,7 @@ pub fn thirds_running(load: u32) -> Result<(i128, i128, i128), Refusal>
 // By leftover: -66, 33, 33.
 #[tactic(auto, using(crate::proofs::Shares::thirds_leftover))]
 pub fn thirds_leftover(load: u32) -> Result<(i128, i128, i128), Refusal>
-    ensures { 1 ≤ load → load ≤ 20000000 → result ≡ Ok (negsuc 65, pos 33, pos 33) }
+    ensures { Answered (load_checks load) number_of place_of (λ v. v ≡ (negsuc 65, pos 33, pos 33)) result }
 {
     thirds_afresh(load, &Leftover)
 }

@@ -1,7 +1,10 @@
 // Callers of the book, proved from its contracts alone.
 #![tactic(auto)]
 
-ghost use Rattle.std.specs.Prelude.{◌≡◌, pos, ◌+ℤ◌, IfOk};
+ghost use Rattle.std.specs.Prelude.{IfOk, IsOkAnd, MatchResult, Err};
+ghost use Rattle.law.specs.Settlements as words;
+ghost use Rattle.book.specs.Books.{model, Opens};
+ghost use Rattle.desk.specs.Days.{DayDone, AddUpToZero};
 
 mod balances;
 pub mod figures;
@@ -28,7 +31,8 @@ pub fn day(
     rows: &[ListedRow],
     adjustment: i64,
 ) -> Result<(i128, i128, i128), Refusal>
-    ensures { IfOk result (λ v. (v.0 +ℤ v.1) +ℤ v.2 ≡ pos 0) }
+    ensures zero { IfOk result AddUpToZero }
+    ensures done { MatchResult result (DayDone loads.now rows.now adjustment (model book.new)) (λ e. Opens 3 4 book.old (Err e) book.new) }
 {
     book.open(3, 4)?;
     let listed = RowSource {
@@ -51,7 +55,8 @@ pub fn day_over_arrays(
     rows: &[ListedRow],
     adjustment: i64,
 ) -> Result<(i128, i128, i128), Refusal>
-    ensures { IfOk result (λ v. (v.0 +ℤ v.1) +ℤ v.2 ≡ pos 0) }
+    ensures zero { IsOkAnd result AddUpToZero }
+    ensures done { IfOk result (λ v. (after : words.Book) × DayDone loads.now rows.now adjustment after v) }
 {
     let mut slots = [USED_SLOT; 20];
     let mut entries = [USED_ENTRY; 40];

@@ -1,14 +1,28 @@
--- The three claims from what the book is held to keep.
+-- The claims from what the book is held to keep.
 use Rattle.std.proofs.Common.{◌≡◌, ℕ, ◌-◌, ◌<◌, Bool, true, false, cond, ltb, List, get_or, pos, ◌+ℤ◌, ◌*ℤ◌, is_some, IfSome, Some, None, Option, refl, ap, ◌∙◌, arith}
 use Rattle.std.proofs.lemmas.Int.{ints}
 use Rattle.std.proofs.lemmas.Bool.{ltb-true, ltb-false, lt-ltb}
 use Rattle.sharing.specs.Rules.{Asked, Fair}
-use Rattle.law.specs.Settlements.{Among, apart, Settlement, Book, posted, over, over_slots, all_load, load_of, paid_out, source_lines, charge_of}
-use Rattle.law.specs.Steps.{balance, balance_is, answer, balance_in, among}
-use Rattle.law.specs.Runs.{Met, standing, due, owed, balance_told, Balanced, WithinACent}
+use Rattle.law.specs.Settlements.{Among, apart, Settlement, Book, zeros, posted, over, over_slots, all_load, load_of, paid_out, source_lines, charge_of}
+use Rattle.law.specs.Steps.{balance, balance_is, entry_is, answer, balance_in, among}
+use Rattle.law.specs.Runs.{Met, standing, due, owed, balance_told, Entered, Balanced, WithinACent}
 use Rattle.law.proofs.Totals.{over_same, over_add, over_none, over_items, slots_same, slots_none, slots_swap}
 use Rattle.law.proofs.Table.{Sound, so_among, lines_add_up}
 use Rattle.law.proofs.Held.{Held}
+
+-- each entry
+told_kept : (o : Option Settlement) (p : ℕ) → cond (is_some o) (posted o p) zeros ≡ posted o p
+told_kept None p = refl
+told_kept (Some s) p = refl
+
+pub entered : (n m : ℕ) (met : List Met) (b : Book) → Held n m (standing met) b → Entered n m met b
+entered n m met b h t i p k a =
+    let type : among t 3 ≡ true = so_among t 3 k.0 in
+    let interval : among i b.intervals ≡ true = rw h.has_intervals (so_among i m k.1) in
+    let party : among p b.parties ≡ true = rw h.has_parties (so_among p n a) in
+    let stands = h.stands t i k in
+    let keeps = h.keeps t i p k a in
+    rw (type, interval, party, stands, keeps) (ap (entry_is (is_some (standing met t i))) (told_kept (standing met t i) p))
 
 -- (a), each balance
 due_kept : (o : Option Settlement) (p : ℕ) → cond (is_some o) ((posted o p).paid +ℤ (posted o p).charged) (pos 0) ≡ due p o

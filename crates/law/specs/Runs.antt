@@ -1,7 +1,7 @@
 -- The law over runs: what holds of every book after any list of calls.
-use Rattle.std.specs.Prelude.{◌≡◌, ℕ, ◌<◌, Bool, true, false, cond, ◌&&◌, List, [], ◌∷◌, map, ℤ, pos, ◌+ℤ◌, ◌*ℤ◌, ◌≤ℤ◌, Some, None, Option, ◌==◌}
+use Rattle.std.specs.Prelude.{◌≡◌, ℕ, ◌<◌, Bool, true, false, cond, ◌&&◌, List, [], ◌∷◌, map, ℤ, pos, ◌+ℤ◌, ◌*ℤ◌, ◌≤ℤ◌, is_some, Some, None, Option, ◌==◌}
 use Rattle.charges.specs.Lines.{Line}
-use Rattle.law.specs.Settlements.{Among, Settlement, Book, over, over_slots, SlotOf, apart, all_load, load_of, paid_out, source_lines, charge_of}
+use Rattle.law.specs.Settlements.{Among, Settlement, Book, posted, over, over_slots, SlotOf, apart, all_load, load_of, paid_out, source_lines, charge_of}
 use Rattle.law.specs.Steps.{Call, settle, restate, void, balance, look, Carried, Answer, accepted, refused, balance_is, entry_is, answer, BringsLawful, Step, Fresh}
 
 -- A call with the answer that it got.
@@ -47,6 +47,12 @@ pub record Run (parties intervals : ℕ) (met : List Met) (b : Book) : Type 0 wh
   pub start : Book
   pub fresh : Fresh parties intervals start
   pub leads : Leads start met b
+
+-- A book opened fresh that met these calls, the latest first, and answered each as it does.
+pub record MetCalls (parties intervals : ℕ) (calls : List Call) (b : Book) : Type 0 where
+  pub met : List Met
+  pub run : Run parties intervals met b
+  pub those : map (λ m. m.call) met ≡ calls
 
 -- A party's source lines and charge in a standing settlement, 0 where none stands.
 abbrev pub due : ℕ → Option Settlement → ℤ
@@ -116,8 +122,13 @@ pub record Alike (parties intervals : ℕ) (met : List Met) (b : Book) (met' : L
   pub same_verdicts : map (λ m. verdict m.got) met ≡ map (λ m. verdict m.got) met'
   pub near : (p : ℕ) → Among p parties → pos (apart (balance_told (answer b (balance p))) (balance_told (answer b' (balance p)))) ≤ℤ how_many intervals met
 
--- The law of a book after a list of calls: its three parts.
+-- What stands is what the list says: of each slot and party, entry answers whether a settlement stands, and what that posts for the party; zeros where none stands.
+abbrev pub Entered : (parties intervals : ℕ) → List Met → Book → Type 0
+Entered parties intervals met b = (t i p : ℕ) → SlotOf intervals t i → Among p parties → answer b (look t i p) ≡ entry_is (is_some (standing met t i)) (posted (standing met t i) p)
+
+-- The law of a book after a list of calls: its three parts, and that its entries are those of what stands.
 pub record Law (parties intervals : ℕ) (met : List Met) (b : Book) : Type 0 where
+  pub entered : Entered parties intervals met b
   pub balanced : Balanced parties intervals met b
   pub cents : WithinACent parties met b
   pub any_rules : (met' : List Met) (b' : Book) → Run parties intervals met' b' → map (λ m. plain m.call) met ≡ map (λ m. plain m.call) met' → Alike parties intervals met b met' b'

@@ -1,2 +1,3 @@
 pub mod Seasons
 pub mod Standby
+pub mod Fees

@@ -5,6 +5,7 @@ ghost use Rattle.book.specs.Model.{means};
 
 use super::Book;
 use crate::rows::{Entry, Slot};
+use assess::limits::{MOST_INTERVALS, MOST_PARTIES};
 use assess::refusals::Refusal;
 use assess::slots::ChargeType;
 
@@ -27,7 +28,7 @@ impl<'a> Book<'a> {
     pub fn open(&mut self, parties: usize, intervals: usize) -> Result<(), Refusal>
         ensures { Opens parties intervals self.old result self.new }
     {
-        if !(1..=64).contains(&parties) || !(1..=100).contains(&intervals) {
+        if !(1..=MOST_PARTIES).contains(&parties) || !(1..=MOST_INTERVALS).contains(&intervals) {
             return Err(Refusal::Size);
         }
         let slots = ChargeType::ALL.len() * intervals;

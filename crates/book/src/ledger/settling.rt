@@ -13,6 +13,7 @@ use super::Book;
 use crate::rows::Entry;
 use assess::assessing::{Totals, work_out};
 use assess::checks::{check_count, check_loads, check_stands};
+use assess::limits::MOST_PARTIES;
 use assess::refusals::Refusal;
 use assess::slots::SlotId;
 use charges::interface::LineSource;
@@ -95,8 +96,8 @@ impl<'a> Book<'a> {
     {
         let slot = SlotId::of(self.intervals, charge_type, interval)?;
         // Kept: amounts for as many parties as a book can have, since nothing is allocated and a rule writes its shares into a slice.
-        let mut paid = [0; 64];
-        let mut charged = [0; 64];
+        let mut paid = [0; MOST_PARTIES];
+        let mut charged = [0; MOST_PARTIES];
         let totals = self.checked(wanted, slot, loads, source, &mut paid)?;
         totals.charge(rule, loads, &mut charged);
         let at = self.place(slot);
@@ -116,7 +117,7 @@ impl<'a> Book<'a> {
         paid: &mut [i64],
     ) -> Result<Totals, Refusal>
         requires slot { Within self.now.intervals slot }
-        requires room { 64 ≤ length paid.old }
+        requires room { MOST_PARTIES ≤ length paid.old }
         ensures checks { raised result ≡ first (checks self.now.parties self.now.intervals ((model self.now).stands (type_number slot.charge_type) slot.interval) wanted (type_number slot.charge_type) slot.interval loads.now (S.LineSource.lines source.now)) }
         ensures sums { IfOk result (λ x. (x.total ≡ total_of (S.LineSource.lines source.now)) × (x.load ≡ sum loads.now)) }
         ensures paid { OnOk result ((p : ℕ) → Among p self.now.parties → slice_index_or paid.new (p - 1) (pos 0) ≡ sum_for p (S.LineSource.lines source.now)) }

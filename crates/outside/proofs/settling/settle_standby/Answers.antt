@@ -1,19 +1,25 @@
-use Rattle.std.proofs.Common.{◌≡◌, ℕ, List, [], ◌∷◌, ℤ, pos, ◌+ℤ◌, refl, ap, arith, SFits, rules}
-use mir.Syntax.{w128}
-use Rattle.std.proofs.lemmas.Int.{ints, to_z-of_z}
-use Rattle.law.specs.Settlements.{Book, over}
-use Rattle.law.specs.Steps.{answer, balance, balance_is}
-use Rattle.law.specs.Runs.{Opened, Leads, Met, balance_told}
+use Rattle.std.proofs.Common.{Err, ap, ◌∙◌, subst}
+use Rattle.std.proofs.lemmas.Result.{err_from_is_err_and}
+use Rattle.charges.specs.Settings.{held_by}
+use Rattle.book.specs.Books.{model}
+use Rattle.outside.specs.Seasons.{listed, seasonal}
+use Rattle.outside.specs.Fees.{FeesSettled}
+use Rattle.outside.proofs.Fees.{same_fees, fees_refused, fees_settled}
 use Rattle.outside.proofs.settling.settle_standby.Goals as goal
 
-two_zero : (m : ℕ) (start b : Book) (met : List Met) → Opened 2 m start → Leads start met b → (u v : ℤ) → balance_is u ≡ answer b (balance 1) → balance_is v ≡ answer b (balance 2) → u +ℤ v ≡ pos 0
-two_zero m start b met o r u v e f =
-    let z : over 2 (λ p. balance_told (answer b (balance p))) ≡ pos 0 = (o.law met b r).balanced.zero_sum in
-    omega (arith, ints, z, ap balance_told e, ap balance_told f)
+pub returns-in_err-settle : goal.returns-in_err-settle
+returns-in_err-settle c =
+    let rule = seasonal (listed c.args.rule.months.now c.args.rule.month) in
+    let p = err_from_is_err_and c.from_residual-in_err-settle.result c.from_residual-in_err-settle.ensures.1 in
+    let same = same_fees c.args.loads.now c.over-source.result.state (held_by c.over-source.result.below.table) c.over-source.result.below.below c.args.standby rule
+    c.over-source.ensures.state (ap (λ x. held_by x.table) c.over-source.ensures.below ∙ c.over.ensures.none) (ap (λ x. x.below) c.over-source.ensures.below ∙ c.over.ensures.below) in
+    subst (λ s. FeesSettled s c.args.book.now c.from_residual-in_err-settle.result c.settle.new.self) same
+    (fees_refused (model c.open.new.self) c.settle.new.self _ c.in_ok-open.ensures.opened c.args.book.now c.from_residual-in_err-settle.result _ (p.1 ∙ ap Err p.2) c.in_err-settle.ensures.step)
 
 pub returns : goal.returns
 returns c =
-    let z = two_zero 1 _ _ (record { call = _; got = _ } ∷ []) c.in_ok-open.ensures.opened (_, refl, c.in_ok-settle.ensures.step) c.in_ok-one.one c.in_ok-two.two c.in_ok-one.ensures.says c.in_ok-two.ensures.says in
-    let f1 : SFits w128 c.in_ok-one.one = search rules in
-    let f2 : SFits w128 c.in_ok-two.two = search rules in
-    simp to_z-of_z z
+    let rule = seasonal (listed c.args.rule.months.now c.args.rule.month) in
+    let same = same_fees c.args.loads.now c.over-source.result.state (held_by c.over-source.result.below.table) c.over-source.result.below.below c.args.standby rule
+    c.over-source.ensures.state (ap (λ x. held_by x.table) c.over-source.ensures.below ∙ c.over.ensures.none) (ap (λ x. x.below) c.over-source.ensures.below ∙ c.over.ensures.below) in
+    subst (λ s. FeesSettled s c.args.book.now c.balances.result c.settle.new.self) same
+    (fees_settled (model c.open.new.self) c.settle.new.self _ c.in_ok-open.ensures.opened c.args.book.now c.balances.result c.in_ok-settle.ensures.step c.balances.ensures)

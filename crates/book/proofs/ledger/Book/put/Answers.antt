@@ -30,7 +30,7 @@ returns g c =
     let one_each = ok.one_each in
     let total = c.in_ok-totals.ensures.sums.0 in
     let share : (p : ℕ) → Among p b.parties → get_or c.charge.new.charged (p - 1) (pos 0) ≡ charge_of s p =
-    λ p a. c.charge.ensures (p - 1) (omega arith) ∙ ap (λ z. cond (ltb 0 (sum s.loads)) (get_or (s.rule (neg_ℤ z) s.loads) (p - 1) (pos 0)) (pos 0)) total in
+    λ p a. c.charge.ensures.share (p - 1) (omega arith) ∙ ap (λ z. cond (ltb 0 (sum s.loads)) (get_or (s.rule (neg_ℤ z) s.loads) (p - 1) (pos 0)) (pos 0)) total in
     let rows : (p : ℕ) → Among p b.parties → get_or c.write_row.new.entries (p - 1) blank ≡ entered s p =
     λ p a. row_entered s c.checked.new.paid c.charge.new.charged p _ (c.write_row.ensures p (search rules)) (c.in_ok-totals.ensures.paid p a) (share p a) in
     put_moves b _ slot c.place-at.result c.args.charge_type c.args.interval c.in_ok-slot.ensures.named c.in_ok-slot.ensures.within c.place-at.ensures.at

@@ -12,6 +12,17 @@ use Rattle.charges.proofs.table.Table.set.Goals as goal
 good : (r : ℕ) (z : ℤ) → SFits w64 z → Decides true (InRange r (to_z w64 (of_z w64 z))) → InRange r z
 good r z fits told = subst (InRange r) (to_z-of_z w64 z fits) (told.0 refl)
 
+pub returns : goal.returns
+returns c =
+    let t = c.args.self.now in
+    let z = to_z w64 (of_z w64 c.args.figure) in
+    let at : place_for t.rows c.args.resource ≡ Some c.in_ok-place.place = sym c.place_for.ensures ∙ c.in_ok-place.ensures.ok_part in
+    let s = set_place t.rows c.args.resource c.in_ok-place.place t.many t.once at in
+    let w = written t.rows c.args.resource c.in_ok-place.place (Some z) t.once s.0 in (
+      (good c.args.resource c.args.figure c.ranges.figure c.if-not-is_in_range.ensures, (s.1, tt)),
+      record { map = w.map ∙ ap (λ f. changed (held_by t) c.args.resource (Some f)) (to_z-of_z w64 c.args.figure c.ranges.figure); many = size_more _ _ _ w.size },
+    )
+
 pub returns-in_err-place : goal.returns-in_err-place
 returns-in_err-place c =
     let t = c.args.self.now in
@@ -34,14 +45,3 @@ invariant_of-self c =
       once = w.once;
       known = known_written t.rows c.args.resource c.in_ok-place.place (Some z) place.within (c.if-not-is_in_range.ensures.0 refl) t.known;
     }
-
-pub returns : goal.returns
-returns c =
-    let t = c.args.self.now in
-    let z = to_z w64 (of_z w64 c.args.figure) in
-    let at : place_for t.rows c.args.resource ≡ Some c.in_ok-place.place = sym c.place_for.ensures ∙ c.in_ok-place.ensures.ok_part in
-    let s = set_place t.rows c.args.resource c.in_ok-place.place t.many t.once at in
-    let w = written t.rows c.args.resource c.in_ok-place.place (Some z) t.once s.0 in (
-      (good c.args.resource c.args.figure c.ranges.figure c.if-not-is_in_range.ensures, (s.1, tt)),
-      record { map = w.map ∙ ap (λ f. changed (held_by t) c.args.resource (Some f)) (to_z-of_z w64 c.args.figure c.ranges.figure); many = size_more _ _ _ w.size },
-    )

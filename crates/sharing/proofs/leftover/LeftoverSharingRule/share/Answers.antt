@@ -1,4 +1,4 @@
-use Rattle.std.proofs.Common.{◌≡◌, ℕ, ◌<◌, length, ℤ, pos, ◌∙◌, arith, w64, SFits, to_z, of_z}
+use Rattle.std.proofs.Common.{◌≡◌, ℕ, ◌<◌, length, ℤ, pos, ap, ◌∙◌, arith, w64, SFits, to_z, of_z}
 use Rattle.std.proofs.lemmas.Int.{to_z-of_z}
 use Rattle.std.proofs.lemmas.List.Edits.{fill_by_more}
 use Rattle.numbers.specs.Signs.{signed_by}
@@ -15,7 +15,7 @@ loop-place-preserved c =
     let l = turn_left m ls i c.from.result c.total_load-all.result c.loop-place.left c.cent_for-cent.result c.loop-place-test.true c.from.ensures c.total_load-all.ensures c.loop-place.invariant.0 c.cent_for-cent.ensures in
     let f : ℕ → ℤ = λ k. signed_by (to_z w64 (of_z w64 c.args.total)) (part m ls k) in
     let fits : SFits w64 c.with_sign.result = record { sfits = c.with_sign.type_inv } in
-    let e : to_z w64 (of_z w64 c.with_sign.result) ≡ f i = to_z-of_z w64 c.with_sign.result fits ∙ c.with_sign.ensures ∙ rw p in
+    let e : to_z w64 (of_z w64 c.with_sign.result) ≡ f i = to_z-of_z w64 c.with_sign.result fits ∙ c.with_sign.ensures ∙ ap (signed_by (to_z w64 (of_z w64 c.args.total))) p in
     let lt : i < length c.loop-place.shares = omega arith in
     (l, rw e (fill_by_more f c.loop-place.shares i (pos 0) lt c.loop-place.invariant.1))
 

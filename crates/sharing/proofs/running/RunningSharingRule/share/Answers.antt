@@ -14,6 +14,22 @@ pub loop-place-init : goal.loop-place-init
 loop-place-init c =
     (omega arith, sym (up_to_zero c.unsigned_abs-magnitude.result c.args.loads.now c.requires.asked.loaded), λ k h. absurd (omega arith))
 
+pub loop-place-preserved : goal.loop-place-preserved
+loop-place-preserved c =
+    let m : ℕ = c.unsigned_abs-magnitude.result in
+    let ls = c.args.loads.now in
+    let i : ℕ = c.loop-place.place in
+    let next = ap (λ x. m * (c.loop-place.before + x) / c.total_load-all.result) c.from-before.ensures ∙ up_to_step m ls c.requires.asked.loaded i c.loop-place.before c.total_load-all.result c.loop-place-test.true c.loop-place.invariant.0 c.total_load-all.ensures in
+    let z : ℤ = to_z w64 (of_z w64 c.args.total) in
+    let f : ℕ → ℤ = λ k. signed_by z (up_to m ls (k + 1) - up_to m ls k) in
+    let fits : SFits w64 c.with_sign.result = record { sfits = c.with_sign.type_inv } in
+    let e : to_z w64 (of_z w64 c.with_sign.result) ≡ f i = to_z-of_z w64 c.with_sign.result fits ∙ c.with_sign.ensures ∙ (λ x. signed_by z (next x - c.loop-place.invariant.1 x)) in
+    let lt : i < length c.loop-place.shares = omega arith in (
+      omega (arith, sum_by_more (λ x. x) ls i 0 c.loop-place-test.true),
+      next,
+      rw e (fill_by_more f c.loop-place.shares i (pos 0) lt c.loop-place.invariant.2),
+    )
+
 pub overflow_mul-up_to : goal.overflow_mul-up_to
 overflow_mul-up_to c =
     let m : c.unsigned_abs-magnitude.result ≤ 5000000000 = omega (arith, ints, c.requires.asked.range) in
@@ -34,22 +50,6 @@ with_sign-requires c =
     let ls = c.args.loads.now in
     rw (c.from-before.ensures, up_to_step m ls c.requires.asked.loaded c.loop-place.place c.loop-place.before c.total_load-all.result c.loop-place-test.true c.loop-place.invariant.0 c.total_load-all.ensures)
     (omega (arith, up_to_le m ls c.requires.asked.loaded (c.loop-place.place + 1)))
-
-pub loop-place-preserved : goal.loop-place-preserved
-loop-place-preserved c =
-    let m : ℕ = c.unsigned_abs-magnitude.result in
-    let ls = c.args.loads.now in
-    let i : ℕ = c.loop-place.place in
-    let next = ap (λ x. m * (c.loop-place.before + x) / c.total_load-all.result) c.from-before.ensures ∙ up_to_step m ls c.requires.asked.loaded i c.loop-place.before c.total_load-all.result c.loop-place-test.true c.loop-place.invariant.0 c.total_load-all.ensures in
-    let z : ℤ = to_z w64 (of_z w64 c.args.total) in
-    let f : ℕ → ℤ = λ k. signed_by z (up_to m ls (k + 1) - up_to m ls k) in
-    let fits : SFits w64 c.with_sign.result = record { sfits = c.with_sign.type_inv } in
-    let e : to_z w64 (of_z w64 c.with_sign.result) ≡ f i = to_z-of_z w64 c.with_sign.result fits ∙ c.with_sign.ensures ∙ rw (next, c.loop-place.invariant.1) in
-    let lt : i < length c.loop-place.shares = omega arith in (
-      omega (arith, sum_by_more (λ x. x) ls i 0 c.loop-place-test.true),
-      next,
-      rw e (fill_by_more f c.loop-place.shares i (pos 0) lt c.loop-place.invariant.2),
-    )
 
 pub returns : goal.returns
 returns c =
