@@ -101,6 +101,13 @@ impl<'a, R: Keyed> Directory<'a, R> {
         Ok(Directory { records })
     }
 
+    // The directory that no record stands in: every look-up finds none.
+    pub fn empty() -> Directory<'a, R>
+        ensures { result.records.now ≡ [] }
+    {
+        Directory { records: &[] }
+    }
+
     // The records.
     pub fn records(&self) -> &'a [R]
         ensures { result.now ≡ self.now.records.now }

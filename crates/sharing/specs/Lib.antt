@@ -4,3 +4,4 @@ pub mod RunningLaws
 pub mod Leftover
 pub mod LeftoverLaws
 pub mod Figures
+pub mod Choice
