@@ -1,4 +1,3 @@
 pub mod Held
 pub mod Names
 pub mod Counts
-pub mod Days

@@ -1,13 +1,17 @@
 // The parties in the order in which they were enrolled.
-ghost use Rattle.std.specs.Prelude.{◌≡◌, ◌-◌, ◌<◌, ◌≤◌, ◌↔◌, ◌⊎◌, [], ◌∷◌, ◌++◌, length, slice_get, is_ok, if◌then◌else◌, IfOk, IfSome, IsNone, List, map, ℕ};
+ghost use Rattle.std.specs.Prelude.{◌≡◌, ◌-◌, ◌<◌, ◌≤◌, ◌↔◌, ◌⊎◌, [], ◌∷◌, ◌++◌, length, slice_get, is_ok, if◌then◌else◌, IfOk, IfSome, IsNone, Some, List, map, ℕ};
 
 use directory::parties::PartyCode;
 use std::alloc::{AllocError, Global};
+use std::collections::HashMap;
 use std::marker::Model;
+use text::numbers::number_in;
 
 #[derive(Drop)]
 pub struct Roll {
     codes: Vec<Vec<u8>>,
+    // for each code, the number of the first party that has it
+    numbers: HashMap<Vec<u8>, u32>,
 }
 
 // Clauses see the codes.
@@ -23,24 +27,41 @@ impl Roll {
     {
         Roll {
             codes: Vec::new(heap),
+            numbers: HashMap::new(heap),
         }
     }
 
-    pub fn enrol(&mut self, code: Vec<u8>) -> Result<(), AllocError>
-        ensures { self.new ≡ (if is_ok result then self.old ++ code.items ∷ [] else self.old) }
+    // How many parties there are.
+    pub fn count(&self) -> usize
+        ensures { result ≡ length self.now }
     {
+        self.codes.len()
+    }
+
+    pub fn enrol(&mut self, heap: Global, code: &[u8]) -> Result<(), AllocError>
+        ensures { self.new ≡ (if is_ok result then self.old ++ code.now ∷ [] else self.old) }
+    {
+        let number = u32::try_from(self.codes.len())
+            .unwrap_or(u32::MAX)
+            .saturating_add(1);
+        let key = Vec::from_slice(heap, code)?;
+        let code = Vec::from_slice(heap, code)?;
+        self.numbers.entry(key)?.or_insert(number);
         Ok(self.codes.push(code)?)
     }
 
     // The number, from 1, of the first party with that code.
+    // That the party of that number has the code is looked up once more, so that it is promised.
     pub fn find(&self, code: &[u8]) -> Option<u32>
-        ensures { IfSome result (λ n. (1 ≤ n) × (n ≤ length self.now)) }
+        ensures { IfSome result (λ n. (1 ≤ n) × (slice_get self.now (n - 1) ≡ Some code.now)) }
     {
-        let before = self
-            .codes
-            .iter()
-            .position(|enrolled| enrolled.as_slice() == code)?;
-        Some(u32::try_from(before).unwrap_or(u32::MAX).saturating_add(1))
+        let number = *self.numbers.get(code)?;
+        let found = self.code(usize::try_from(number).ok()?)?;
+        if number > 0 && found == code {
+            Some(number)
+        } else {
+            None
+        }
     }
 
     // The code of the party with that number.
@@ -51,6 +72,16 @@ impl Roll {
         self.codes
             .get(number.checked_sub(1)?)
             .map(|code| code.as_slice())
+    }
+
+    // Whether a party goes by that name: its code, or # and its number.
+    pub fn is_named(&self, name: &[u8], number: usize) -> bool {
+        match name {
+            [b'#', digits @ ..] => number_in::<u32>(digits).is_some_and(|wanted| usize::try_from(
+                wanted,
+            ).is_ok_and(|wanted| wanted == number)),
+            code => self.code(number).is_some_and(|known| known == code),
+        }
     }
 
     // The codes for a directory.

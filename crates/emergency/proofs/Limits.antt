@@ -1,12 +1,9 @@
 -- What the field checks leave, and so the limits of every slice.
-use Rattle.std.proofs.Common.{◌≡◌, ℕ, ◌<◌, ◌≤◌, Bool, true, false, cond, ◌||◌, ltb, List, Option, Some, None, [], ◌∷◌, length, get_or, take, ℤ, pos, negsuc, nat_abs, ◌≤ℤ◌, sym, refl, subst, ⊎_elim, zero-add, arith}
+use Rattle.std.proofs.Common.{◌≡◌, ℕ, ◌<◌, Bool, true, false, cond, ◌||◌, ltb, List, Option, Some, None, length, get_or, take, ℤ, pos, negsuc, sym, refl, subst, zero-add, arith}
 use borrow.Author.Differences.{ints}
-use lib.Signed.{lt_z}
-use Rattle.std.specs.List.{AllByRecursion, All, list_any}
+use Rattle.std.specs.List.{AllByRecursion, All}
 use Rattle.std.proofs.lemmas.List.FromFn.{length-map-range_with_len, get_or-map-range_with_len}
-use Rattle.std.proofs.ByRecursion.{All-get_or}
-use Rattle.std.proofs.lemmas.List.{get_or-take, get_or_past}
-use Rattle.std.proofs.lemmas.Bool.{cases_lt, or_parts, ltb-false}
+use Rattle.std.proofs.lemmas.Bool.{or_parts, ltb-false}
 use Rattle.numbers.specs.Ranges.{outside, strays}
 use Rattle.numbers.proofs.Ranges.{inside, all_small}
 use Rattle.curves.specs.declared.points.Point.{Point}

@@ -1,14 +1,14 @@
 -- Worked figures: the curve of (50,000 kW; 2,000) and (150,000 kW; 4,000), 600 s at 100,000 kW and 300 s at 150,000 kW, 30,000 kWh generated, cap 900,000; and one slice at −20,000 kW.
-use Rattle.std.specs.Prelude.{◌≡◌, ℕ, List, [], ◌∷◌, replicate, ℤ, pos, negsuc, Ok, Err}
+use Rattle.std.specs.Prelude.{◌≡◌, ℕ, List, [], ◌∷◌, replicate, ℤ, pos, negsuc, Some}
 use Rattle.curves.specs.Completion.{completed}
 use Rattle.curves.specs.Figures.{k_row}
 use Rattle.emergency.specs.declared.row.EmergencyRow.{EmergencyRow}
 use Rattle.emergency.specs.declared.row.Field.TheVariants.{SettlementPointPrice}
-use Rattle.emergency.specs.declared.row.RowFault.TheVariants.{Outside}
 use Rattle.emergency.specs.declared.slices.Slice.{Slice}
 use Rattle.emergency.specs.declared.slices.Side.TheVariants.{Above}
 use Rattle.emergency.specs.Energy.{mean_price, discharged, charged, amount}
-use Rattle.emergency.specs.Payments.{slice, sliced, paid, payment_on}
+use Rattle.emergency.specs.Fields.{bad_field}
+use Rattle.emergency.specs.Payments.{slice, sliced, paid, paid_on}
 
 -- the row, at a settlement point price
 abbrev pub two_slices : ℤ → EmergencyRow
@@ -41,7 +41,7 @@ pub record Figures : Type 0 where
   pub energy : discharged 30000 k_slices ≡ pos 29167
   pub low : amount (pos 3000) 30000 (pos 0) k_slices ≡ negsuc 12512
   pub level : amount (pos 3429) 30000 (pos 0) k_slices ≡ pos 0
-  pub row : payment_on seconds (completed (k_row (pos 50000))) (two_slices (pos 3000)) ≡ Ok (paid k_slices (pos 3000) 30000 (pos 0))
-  pub dear : payment_on seconds (completed (k_row (pos 50000))) (two_slices (pos 1000001)) ≡ Err (Outside SettlementPointPrice)
+  pub row : paid_on seconds (completed (k_row (pos 50000))) (two_slices (pos 3000)) ≡ paid k_slices (pos 3000) 30000 (pos 0)
+  pub dear : bad_field 2 (two_slices (pos 1000001)) ≡ Some SettlementPointPrice
   pub drawn : charged (negsuc 5999) drawing ≡ negsuc 4999
   pub drawn_amount : amount (pos 5000) 0 (negsuc 5999) drawing ≡ negsuc 9999

@@ -1,18 +1,14 @@
--- What a row is paid on a curve, with each step; or the first field that is outside its limits.
-use Rattle.std.specs.Prelude.{ℕ, ◌≤◌, List, map, length, ℤ, pos, Option, Some, None, Ok, Err, Result, slice_index, slice_index_or, unsigned_abs}
+-- What a row is paid on a curve, with each step.
+use Rattle.std.specs.Prelude.{ℕ, ◌≤◌, List, map, length, ℤ, pos, slice_index, slice_index_or, unsigned_abs}
 use Rattle.std.specs.List.{range_with_len}
 use Rattle.curves.specs.declared.points.Point.{Point}
 use Rattle.curves.specs.Reading.{price_at}
 use Rattle.emergency.specs.declared.row.EmergencyRow.{EmergencyRow}
-use Rattle.emergency.specs.declared.row.Field.{Field}
-use Rattle.emergency.specs.declared.row.RowFault.{RowFault}
-use Rattle.emergency.specs.declared.row.RowFault.TheVariants.{Outside}
 use Rattle.emergency.specs.declared.payment.Leg.{Leg}
 use Rattle.emergency.specs.declared.payment.Payment.{Payment}
 use Rattle.emergency.specs.declared.slices.Slice.{Slice}
 use Rattle.emergency.specs.declared.slices.Side.TheVariants.{Above, Below}
 use Rattle.emergency.specs.Energy.{mean_price, discharged, charged, amount, basis}
-use Rattle.emergency.specs.Fields.{bad_field}
 
 -- a slice of its seconds, base point and price
 abbrev pub slice : ℕ → ℤ → ℤ → Slice
@@ -36,12 +32,6 @@ paid xs spp generation charging = record {
 abbrev pub Moderate : Leg → Type 0
 Moderate leg = (unsigned_abs leg.price ≤ 1000000) × (unsigned_abs leg.energy ≤ 500000)
 
--- a payment, unless a field is outside its limits
-abbrev pub unless : Option Field → Payment → Result Payment RowFault
-unless None payment = Ok payment
-unless (Some field) payment = Err (Outside field)
-
--- the payment of a row on a curve's points
-unfoldable pub payment_on : List ℕ → List Point → EmergencyRow → Result Payment RowFault
-payment_on seconds points row =
-    unless (bad_field (length seconds) row) (paid (sliced points row.cap seconds row.bases) row.spp row.generation row.charging)
+-- what a row is paid on a curve's points
+unfoldable pub paid_on : List ℕ → List Point → EmergencyRow → Payment
+paid_on seconds points row = paid (sliced points row.cap seconds row.bases) row.spp row.generation row.charging

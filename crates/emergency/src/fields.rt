@@ -1,9 +1,10 @@
 // The limits of a row's fields.
-ghost use Rattle.std.specs.Prelude.{◌≡◌, length, pos, negsuc, MatchResult};
+ghost use Rattle.std.specs.Prelude.{◌≡◌, length, pos, negsuc, IfOk, MatchResult};
 ghost use Rattle.quarters.specs.Quarters.{slices_of};
 ghost use Rattle.numbers.specs.Ranges.{strays as is_straying};
 ghost use Rattle.emergency.specs.Fields.{bad_field};
 
+use crate::fitting::FittingRow;
 use crate::row::{EmergencyRow, Field};
 use quarters::quarter::QuarterHour;
 
@@ -19,7 +20,7 @@ fn strays(bases: &[i32]) -> bool
 impl EmergencyRow {
     // That each field is in its limits, or the first one that is not.
     #[tactic(auto, unfolding(crate::specs::Fields::bad_field))]
-    pub(crate) fn check_fields(&self, quarter: &QuarterHour) -> Result<(), Field>
+    fn check_fields(&self, quarter: &QuarterHour) -> Result<(), Field>
         ensures { MatchResult result (λ _. bad_field (length (slices_of quarter.now)) self.now ≡ None) (λ field. bad_field (length (slices_of quarter.now)) self.now ≡ Some field) }
     {
         if !(1..=9_999).contains(&self.resource) {
@@ -44,5 +45,15 @@ impl EmergencyRow {
             return Err(Field::Cap);
         }
         Ok(())
+    }
+
+    // The row with its quarter hour, if each field is in its limits; else the first field that is not.
+    #[tactic(auto, using(crate::proofs::Limits::settled))]
+    pub fn fitting<'a>(&'a self, quarter: &'a QuarterHour) -> Result<FittingRow<'a>, Field>
+        ensures test { MatchResult result (λ _. bad_field (length (slices_of quarter.now)) self.now ≡ None) (λ field. bad_field (length (slices_of quarter.now)) self.now ≡ Some field) }
+        ensures same { IfOk result (λ fitting. (fitting.row.now ≡ self.now) × (fitting.quarter.now ≡ quarter.now)) }
+    {
+        self.check_fields(quarter)?;
+        Ok(FittingRow { row: self, quarter })
     }
 }

@@ -3,6 +3,7 @@
 
 mod fields;
 pub mod figures;
+pub mod fitting;
 pub mod payment;
 mod priced;
 pub mod row;

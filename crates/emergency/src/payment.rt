@@ -4,11 +4,12 @@ ghost use Rattle.curves.specs.Curves.{points_of};
 ghost use Rattle.quarters.specs.Quarters.{slices_of};
 ghost use Rattle.emergency.specs.Energy.{mean_price, scheduled as scheduled_on, energy_between, due as due_for};
 ghost use Rattle.emergency.specs.Fields.{Fitting};
-ghost use Rattle.emergency.specs.Payments.{paid, payment_on, Moderate};
+ghost use Rattle.emergency.specs.Payments.{paid, paid_on, Moderate};
 ghost use Rattle.emergency.specs.Priced.{slices_in};
 
+use crate::fitting::FittingRow;
 use crate::priced::PricedSlices;
-use crate::row::{EmergencyRow, RowFault};
+use crate::row::EmergencyRow;
 use crate::slices::Side;
 use curves::curve::Curve;
 use numbers::product;
@@ -108,13 +109,12 @@ impl PricedSlices {
     }
 }
 
-impl EmergencyRow {
-    // What the row is paid on a curve, or its first field that is outside its limits.
-    #[tactic(auto, using(crate::proofs::Limits::settled), unfolding(crate::specs::Payments::payment_on))]
-    pub fn payment_on(&self, quarter: &QuarterHour, curve: &Curve) -> Result<Payment, RowFault>
-        ensures { result ≡ payment_on (slices_of quarter.now) (points_of curve.now) self.now }
+impl FittingRow<'_> {
+    // What the row is paid on a curve.
+    #[tactic(auto, using(crate::proofs::Limits::settled), unfolding(crate::specs::Payments::paid_on))]
+    pub fn payment_on(&self, curve: &Curve) -> Payment
+        ensures { result ≡ paid_on (slices_of self.now.quarter.now) (points_of curve.now) self.now.row.now }
     {
-        self.check_fields(quarter)?;
-        Ok(PricedSlices::of(quarter, curve, self).payment(self))
+        PricedSlices::of(self.quarter, curve, self.row).payment(self.row)
     }
 }

@@ -1,5 +1,5 @@
 // A row of readings as it is handed in, of which nothing is promised, and why it may give no payment.
-ghost use Rattle.std.specs.Prelude.{◌≡◌, Some};
+ghost use Rattle.std.specs.Prelude.{◌≡◌, Some, ◌≢◌, MatchOption};
 ghost use Rattle.emergency.specs.declared.row.RowFault.TheVariants.{Outside};
 ghost use Rattle.emergency.specs.Faults.{number_of, name_of, cause_of, field_of};
 
@@ -41,6 +41,22 @@ impl Field {
         ensures { result ≡ number_of self }
     {
         self as u8
+    }
+
+    // The field of a number, if there is one.
+    pub fn numbered(number: u8) -> Option<Field>
+        ensures { MatchOption result ((field : Field) → number_of field ≢ number) (λ field. number_of field ≡ number) }
+    {
+        match number {
+            1 => Some(Field::Resource),
+            2 => Some(Field::SettlementPointPrice),
+            3 => Some(Field::Generation),
+            4 => Some(Field::Charging),
+            5 => Some(Field::BasePoint),
+            6 => Some(Field::Hour),
+            7 => Some(Field::Cap),
+            _ => None,
+        }
     }
 }
 

@@ -31,7 +31,7 @@ fn operating_loss(margin: i32, energy: u32) -> i64
 
 impl LossRow {
     // Whether a loss is paid at all.
-    fn qualifies(&self) -> bool
+    pub fn qualifies(&self) -> bool
         ensures { result ≡ is_qualifying self.now }
     {
         self.spp >= self.cap && self.offer_at_cap && self.above_lsl

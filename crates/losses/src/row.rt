@@ -1,5 +1,5 @@
 // A row of readings and costs as it is handed in, of which nothing is promised.
-ghost use Rattle.std.specs.Prelude.{◌≡◌, Some};
+ghost use Rattle.std.specs.Prelude.{◌≡◌, Some, ◌≢◌, MatchOption};
 ghost use Rattle.losses.specs.Faults.{number_of, name_of};
 
 use std::fmt;
@@ -72,6 +72,25 @@ impl Field {
         ensures { result ≡ number_of self }
     {
         self as u8
+    }
+
+    // The field of a number, if there is one.
+    pub fn numbered(number: u8) -> Option<Field>
+        ensures { MatchOption result ((field : Field) → number_of field ≢ number) (λ field. number_of field ≡ number) }
+    {
+        match number {
+            1 => Some(Field::Resource),
+            2 => Some(Field::SettlementPointPrice),
+            3 => Some(Field::Generation),
+            4 => Some(Field::HeatRate),
+            5 => Some(Field::FuelPrice),
+            6 => Some(Field::ChargingCost),
+            7 => Some(Field::OwnCost),
+            8 => Some(Field::Category),
+            9 => Some(Field::FuelBurned),
+            10 => Some(Field::Cap),
+            _ => None,
+        }
     }
 }
 

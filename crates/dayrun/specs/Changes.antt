@@ -1,0 +1,75 @@
+-- What a record that changes the tables of rows, the parts of a site or the layers does.
+use Rattle.std.specs.Prelude.{◌≡◌, List, [], ◌∷◌, ◌++◌, Some, None, pos, replicate}
+use Rattle.charges.specs.declared.period.State.{State}
+use Rattle.day.specs.declared.records.Change.{Change}
+use Rattle.day.specs.declared.records.Change.TheVariants.{Quarter, Emergency, Loss, Listed, Clear, Bus, Adders, Unit, Site, Period, Setting}
+use Rattle.day.specs.declared.records.SourceName.{SourceName}
+use Rattle.day.specs.declared.records.SourceName.TheVariants as sources
+use Rattle.dayrun.specs.declared.tables.Layers.{Layers}
+use Rattle.dayrun.specs.declared.tables.Parts.{Parts}
+use Rattle.dayrun.specs.declared.tables.Tables.{Tables}
+use Rattle.quarters.specs.Quarters.{slices_of}
+
+-- the same slices in force
+abbrev pub SameQuarter : Tables → Tables → Type 0
+SameQuarter old new = new.quarter ≡ old.quarter
+
+-- the same emergency rows, under the same slices
+abbrev pub SameEmergency : Tables → Tables → Type 0
+SameEmergency old new = (new.emergency.items ≡ old.emergency.items) × (new.emergency_quarter ≡ old.emergency_quarter)
+
+-- the same operating-loss rows
+abbrev pub SameLosses : Tables → Tables → Type 0
+SameLosses old new = new.losses.items ≡ old.losses.items
+
+-- the same listed rows
+abbrev pub SameListed : Tables → Tables → Type 0
+SameListed old new = new.listed.items ≡ old.listed.items
+
+-- the same rows
+abbrev pub SameRows : Tables → Tables → Type 0
+SameRows old new = SameEmergency old new × SameLosses old new × SameListed old new
+
+-- the same parts of the next site
+abbrev pub SameParts : Parts → Parts → Type 0
+SameParts old new = (new.quarter ≡ old.quarter) × (new.buses.items ≡ old.buses.items) × (new.adders ≡ old.adders) × (new.units.items ≡ old.units.items)
+
+-- no parts, and adders of 0
+pub record Dropped (parts : Parts) : Type 0 where
+  pub quarter : parts.quarter ≡ None
+  pub buses : parts.buses.items ≡ []
+  pub adders : parts.adders ≡ record { first = replicate 15 (pos 0); second = replicate 15 (pos 0) }
+  pub units : parts.units.items ≡ []
+
+-- the same layers
+abbrev pub SameLayers : Tables → Tables → Type 0
+SameLayers old new = new.layers ≡ old.layers
+
+-- nothing is changed
+abbrev pub Same : Tables → Tables → Type 0
+Same old new = SameQuarter old new × SameRows old new × SameParts old.parts new.parts × SameLayers old new
+
+-- the table of that name is empty, and the others stay
+abbrev pub Cleared : SourceName → Tables → Tables → Type 0
+Cleared sources.Emergency old new = (new.emergency.items ≡ []) × (new.emergency_quarter ≡ old.emergency_quarter) × SameLosses old new × SameListed old new
+Cleared sources.Loss old new = SameEmergency old new × (new.losses.items ≡ []) × SameListed old new
+Cleared sources.Listed old new = SameEmergency old new × SameLosses old new × (new.listed.items ≡ [])
+
+-- the change is made, and all else stays
+abbrev pub Makes : Change → Tables → Tables → Type 0
+Makes (Quarter seconds) old new = (slices_of new.quarter ≡ seconds.items) × SameRows old new × SameParts old.parts new.parts × SameLayers old new
+Makes (Emergency row) old new = SameQuarter old new × (new.emergency.items ≡ old.emergency.items ++ row ∷ []) × (new.emergency_quarter ≡ old.quarter) × SameLosses old new × SameListed old new × SameParts old.parts new.parts × SameLayers old new
+Makes (Loss row) old new = SameQuarter old new × SameEmergency old new × (new.losses.items ≡ old.losses.items ++ row ∷ []) × SameListed old new × SameParts old.parts new.parts × SameLayers old new
+Makes (Listed row) old new = SameQuarter old new × SameEmergency old new × SameLosses old new × (new.listed.items ≡ old.listed.items ++ row ∷ []) × SameParts old.parts new.parts × SameLayers old new
+Makes (Clear source) old new = SameQuarter old new × Cleared source old new × SameParts old.parts new.parts × SameLayers old new
+Makes (Bus bus) old new = SameQuarter old new × SameRows old new × (new.parts.quarter ≡ Some old.quarter) × (new.parts.buses.items ≡ old.parts.buses.items ++ bus ∷ []) × (new.parts.adders ≡ old.parts.adders) × (new.parts.units.items ≡ old.parts.units.items) × SameLayers old new
+Makes (Adders adders) old new = SameQuarter old new × SameRows old new × (new.parts.quarter ≡ Some old.quarter) × (new.parts.buses.items ≡ old.parts.buses.items) × (new.parts.adders ≡ adders) × (new.parts.units.items ≡ old.parts.units.items) × SameLayers old new
+Makes (Unit unit) old new = SameQuarter old new × SameRows old new × (new.parts.quarter ≡ old.parts.quarter) × (new.parts.buses.items ≡ old.parts.buses.items) × (new.parts.adders ≡ old.parts.adders) × (new.parts.units.items ≡ old.parts.units.items ++ unit ∷ []) × SameLayers old new
+Makes (Site rule) old new = SameQuarter old new × SameEmergency old new × SameLosses old new × Dropped new.parts × SameLayers old new
+Makes (Period state) old new = SameQuarter old new × SameRows old new × SameParts old.parts new.parts × (new.layers.state ≡ state) × (new.layers.denial ≡ old.layers.denial) × (new.layers.adjustment ≡ old.layers.adjustment)
+Makes (Setting setting) old new = SameQuarter old new × SameRows old new × SameParts old.parts new.parts × (new.layers.state ≡ old.layers.state)
+
+-- what a change that is not made leaves: everything; but a site's parts are dropped
+abbrev pub Leaves : Change → Tables → Tables → Type 0
+Leaves (Site rule) old new = SameQuarter old new × SameRows old new × Dropped new.parts × SameLayers old new
+Leaves _ old new = Same old new

@@ -1,0 +1,67 @@
+// What is gathered before the first call, and what the book is opened with.
+ghost use Rattle.std.specs.Prelude.{◌≤◌, OnOk, OnErr};
+ghost use Rattle.dayrun.specs.Enrolments.{Same, Enrols};
+
+use crate::notdone::Refused;
+use curves::keys::submitted_curves;
+use curves::points::SubmittedCurve;
+use day::records::Enrolment;
+use day::roll::Roll;
+use directory::lookup::Directory;
+use directory::parties::{PartyCode, parties};
+use std::alloc::{AllocError, Global};
+
+#[derive(Drop)]
+pub struct Enrolled {
+    pub parties: Roll,
+    pub intervals: u32,
+    pub curves: Vec<SubmittedCurve>,
+}
+
+impl Enrolled {
+    pub fn new(heap: Global) -> Enrolled {
+        Enrolled {
+            parties: Roll::new(heap),
+            intervals: 0,
+            curves: Vec::new(heap),
+        }
+    }
+
+    // Does a record; one for which there is no memory changes nothing.
+    pub fn add(&mut self, heap: Global, enrolment: Enrolment<'_>) -> Result<(), AllocError>
+        ensures done { OnOk result (Enrols enrolment.entry self.old self.new) }
+        ensures unchanged { OnErr result (Same self.old self.new) }
+    {
+        match enrolment {
+            Enrolment::Party(code) => self.parties.enrol(heap, code)?,
+            Enrolment::Intervals(count) => self.intervals = count,
+            Enrolment::Curve(row) => self.curves.push(row)?,
+        }
+        Ok(())
+    }
+
+    // The number of intervals as the book takes it.
+    pub fn intervals(&self) -> usize {
+        usize::try_from(self.intervals).unwrap_or(usize::MAX)
+    }
+
+    // How many slots the book is lent, and how many entries: as many as it needs, and no more than the largest book.
+    pub fn slots(&self) -> usize
+        ensures { result ≤ 300 }
+    {
+        3 * self.intervals().min(100)
+    }
+
+    pub fn entries(&self) -> usize {
+        self.slots() * self.parties.count().min(64)
+    }
+
+    // The directory of the curves, once the parties and the curves pass their checks. No curves at all are no refusal.
+    pub fn directory(&self, codes: &[PartyCode]) -> Result<Directory<'_, SubmittedCurve>, Refused> {
+        parties(codes)?;
+        if self.curves.is_empty() {
+            return Ok(Directory::empty());
+        }
+        Ok(submitted_curves(self.curves.as_slice())?)
+    }
+}
