@@ -4,3 +4,4 @@ pub mod Cursor
 pub mod Ends
 pub mod Digits
 pub mod Items
+pub mod Plain

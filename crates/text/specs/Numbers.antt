@@ -1,6 +1,6 @@
 -- The numbers that texts write.
-use Rattle.std.specs.Prelude.{ℕ, ◌+◌, ◌-◌, ◌*◌, Bool, true, false, cond, ◌&&◌, List, [], ◌∷◌, ℤ, pos, neg_ℤ, Some, None, Option, ◌==◌, nat_le, nat_lt}
-use Rattle.text.specs.Text.{every, and_then}
+use Rattle.std.specs.Prelude.{◌≡◌, ℕ, ◌+◌, ◌-◌, ◌*◌, Bool, true, false, cond, ◌&&◌, List, [], ◌∷◌, ℤ, pos, neg_ℤ, Some, None, Option, ◌==◌, nat_le, nat_lt}
+use Rattle.text.specs.Text.{every, front, past, and_then}
 
 -- a decimal digit
 abbrev pub digit : ℕ → Bool
@@ -19,6 +19,11 @@ magnitude (c ∷ s) = cond (nat_le (read_on 0 (c ∷ s)) 9223372036854775808) (S
 -- the number that a text of digits and nothing else writes
 abbrev pub digits_in : List ℕ → Option ℕ
 digits_in s = cond (every digit s) (magnitude s) None
+
+-- The digits at the front of a text write the value, and the rest follows them.
+pub record Leads (text : List ℕ) (value : ℕ) (rest : List ℕ) : Type 0 where
+  pub written : digits_in (front digit text) ≡ Some value
+  pub follows : rest ≡ past digit text
 
 -- A kind of number says which number a minus or none and a magnitude make, if any.
 

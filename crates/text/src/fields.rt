@@ -1,12 +1,12 @@
 // The fields of a line, read from the left.
-ghost use Rattle.std.specs.Prelude.{◌≡◌, count_by, length, is_some, Some, None, MatchOption, ◌==◌};
+ghost use Rattle.std.specs.Prelude.{◌≡◌, count_by, length, is_some, Some, None, IfSome, MatchOption, ◌==◌};
 ghost use Rattle.text.specs.declared.fields.Fault.TheVariants.{Memory};
 ghost use Rattle.text.specs.Text.{front, past, trimmed, and_then};
 ghost use Rattle.text.specs.Numbers.{number_in, number_or_zero_in};
-ghost use Rattle.text.specs.Fields.{comma, in_field, left, next_text, Passes};
+ghost use Rattle.text.specs.Fields.{comma, in_field, left, next_text, Passes, Plain};
 
 use crate::blanks;
-use crate::numbers::{Number, number_in};
+use crate::numbers::{Number, leading, number_in};
 use memchr::memchr;
 use std::alloc::{AllocError, AllocFailed};
 
@@ -56,6 +56,33 @@ fn first_text(line: &[u8]) -> (&[u8], &[u8])
     (blanks::trimmed(&line[..end]), &line[end..])
 }
 
+// The value of a field at the front of a line that is digits and nothing else, and what follows the field. None where it wants a
+// closer look.
+#[tactic(auto, using(crate::proofs::Plain::plain))]
+fn plain_digits(line: &[u8]) -> Option<(u64, &[u8])>
+    ensures { IfSome result (λ r. Plain line.now r.0 r.1.now) }
+{
+    let (value, rest) = leading(line)?;
+    matches!(rest, [] | [b',', ..]).then_some((value, rest))
+}
+
+// The same of digits with at most one minus before them, as a number.
+fn plain_number<T: Number>(line: &[u8]) -> Option<(T, &[u8])>
+    ensures value { IfSome result (λ r. number_in T.Number.kind (trimmed (front in_field line.now)) ≡ Some r.0) }
+    ensures rest { IfSome result (λ r. r.1.now ≡ past in_field line.now) }
+{
+    match line.strip_prefix(b"-") {
+        Some(digits) => {
+            let (magnitude, rest) = plain_digits(digits)?;
+            Some((T::from_parts(true, magnitude)?, rest))
+        }
+        None => {
+            let (magnitude, rest) = plain_digits(line)?;
+            Some((T::from_parts(false, magnitude)?, rest))
+        }
+    }
+}
+
 impl<'t> Fields<'t> {
     // The line's first field, which names the record, and the fields behind it.
     pub fn of(line: &'t [u8]) -> (&'t [u8], Fields<'t>)
@@ -90,11 +117,24 @@ impl<'t> Fields<'t> {
         Some(text)
     }
 
+    // The next field as a number, where it is digits with at most one minus before them. None where it wants a closer look: the field stays.
+    fn plain<T: Number>(&mut self) -> Option<T>
+        ensures value { IfSome result (λ number. and_then (next_text self.old.rest.now) (number_in T.Number.kind) ≡ Some number) }
+        ensures passes { Passes (is_some result) self.old.rest.now self.new.rest.now }
+    {
+        let (number, rest) = plain_number(self.rest.strip_prefix(b",")?)?;
+        self.rest = rest;
+        Some(number)
+    }
+
     // The next field as a number. None where no field is left, or it is no number of that kind: the field stays.
     pub fn number<T: Number>(&mut self) -> Option<T>
         ensures value { result ≡ and_then (next_text self.old.rest.now) (number_in T.Number.kind) }
         ensures passes { Passes (is_some result) self.old.rest.now self.new.rest.now }
     {
+        if let Some(number) = self.plain() {
+            return Some(number);
+        }
         let mut behind = *self;
         let number = number_in(behind.text()?)?;
         *self = behind;
@@ -106,6 +146,9 @@ impl<'t> Fields<'t> {
         ensures value { result ≡ and_then (next_text self.old.rest.now) (number_or_zero_in T.Number.kind) }
         ensures passes { Passes (is_some result) self.old.rest.now self.new.rest.now }
     {
+        if let Some(number) = self.plain() {
+            return Some(number);
+        }
         let mut behind = *self;
         let number = match behind.text()? {
             [] => T::from_parts(false, 0)?,

@@ -1,6 +1,6 @@
 // The numbers that a text writes.
-ghost use Rattle.std.specs.Prelude.{◌≡◌, ℕ, Bool, true, false, is_some, Option, refl};
-ghost use Rattle.text.specs.Numbers.{signed64, natural32, digits_in, number_in};
+ghost use Rattle.std.specs.Prelude.{◌≡◌, ℕ, Bool, true, false, is_some, Option, IfSome, refl};
+ghost use Rattle.text.specs.Numbers.{signed64, natural32, digits_in, number_in, Leads};
 
 // A kind of number.
 pub trait Number: Drop {
@@ -64,6 +64,31 @@ fn magnitude(text: &[u8]) -> Option<u64>
             .checked_add(u64::from(*digit - b'0'))?;
     }
     (value <= GREATEST).then_some(value)
+}
+
+// The most that a number of so few digits may be that another digit still leaves it below any limit.
+const SMALL: u64 = 99_999_999_999_999_999;
+
+// The number that the digits at the front of a text write, and what follows them. None where there are none, or so many
+// that they want a closer look.
+pub(crate) fn leading(text: &[u8]) -> Option<(u64, &[u8])>
+    ensures { IfSome result (λ r. Leads text.now r.0 r.1.now) }
+{
+    let mut value = 0;
+    let mut rest = text;
+    while let [digit, behind @ ..] = rest
+        && digit.is_ascii_digit()
+    {
+        if value > SMALL {
+            return None;
+        }
+        value = value * 10 + u64::from(*digit - b'0');
+        rest = behind;
+    }
+    if rest.len() == text.len() {
+        return None;
+    }
+    Some((value, rest))
 }
 
 // The number that the text writes.

@@ -1,0 +1,16 @@
+use Rattle.std.proofs.Common.{rules, ◌∙◌, drop, ap, subst}
+use Rattle.text.specs.Text.{front, trimmed}
+use Rattle.text.specs.Fields.{in_field, Plain}
+use Rattle.text.specs.Numbers.{number_in}
+use Rattle.text.proofs.Plain.{plain_above, plain_below, minus_led}
+use Rattle.text.proofs.fields.plain_number.Goals as goal
+
+pub returns-in_ok-from_parts-in-Some-clause-value : goal.returns-in_ok-from_parts-in-Some-clause-value
+returns-in_ok-from_parts-in-Some-clause-value g c =
+    let told = c.in_ok-magnitude-in-Some in
+    ap (λ s. number_in g.T.Number.kind (trimmed (front in_field s))) (minus_led c.args.line.now c.in-Some.ensures.cases.0) ∙ plain_below g.T.Number.kind (drop 1 c.args.line.now) told.magnitude told.rest.now (subst (λ s. Plain s told.magnitude told.rest.now) c.in-Some.ensures.cases.1 (search rules)) ∙ search rules
+
+pub returns-in_ok-from_parts-in-None-clause-value : goal.returns-in_ok-from_parts-in-None-clause-value
+returns-in_ok-from_parts-in-None-clause-value g c =
+    let told = c.in_ok-magnitude-in-None in
+    plain_above g.T.Number.kind c.args.line.now told.magnitude told.rest.now (search rules) ∙ search rules
