@@ -33,18 +33,24 @@ pub struct SlotName {
     pub interval: u32,
 }
 
+impl SlotName {
+    // The name of the charge type, if it is one.
+    pub fn type_name(self) -> Option<&'static str> {
+        match self.charge_type {
+            1 => Some("EMR"),
+            2 => Some("OPL"),
+            3 => Some("SOG"),
+            _ => None,
+        }
+    }
+}
+
 // The type by its name, or as # and its number; then the interval.
 impl fmt::Display for SlotName {
     fn fmt<W: fmt::Write>(&self, f: &mut fmt::Formatter<W>) -> fmt::Result {
-        let SlotName {
-            charge_type,
-            interval,
-        } = self;
-        match charge_type {
-            1 => write!(f, "EMR {interval}"),
-            2 => write!(f, "OPL {interval}"),
-            3 => write!(f, "SOG {interval}"),
-            _ => write!(f, "#{charge_type} {interval}"),
+        match self.type_name() {
+            Some(name) => write!(f, "{name} {}", self.interval),
+            None => write!(f, "#{} {}", self.charge_type, self.interval),
         }
     }
 }

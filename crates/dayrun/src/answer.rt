@@ -2,7 +2,8 @@
 use crate::ledger::Posted;
 use crate::tables::SettledSite;
 use book::rows::Told;
-use std::fmt;
+use std::alloc::AllocError;
+use text::answers::Answers;
 
 #[derive(Clone, Copy, PartialEq, Eq, Debug)]
 pub enum Answer {
@@ -17,30 +18,52 @@ pub enum Answer {
     Energy(u64),
 }
 
-// The values, each with a blank before it.
-impl fmt::Display for Answer {
-    fn fmt<W: fmt::Write>(&self, f: &mut fmt::Formatter<W>) -> fmt::Result {
-        match self {
+// The values of a balance of 128 bits are told digit by digit where they fit 64 bits, as they do but in a vast book.
+fn put_wide(text: &mut Answers, z: i128) -> Result<(), AllocError> {
+    match i64::try_from(z) {
+        Ok(z) => text.signed(z),
+        Err(_) => write!(text, "{z}"),
+    }
+}
+
+// Puts words and the number that they name.
+fn put_natural(text: &mut Answers, words: &str, n: u64) -> Result<(), AllocError> {
+    text.put(words.as_bytes())?;
+    text.number(n)
+}
+
+fn put_signed(text: &mut Answers, words: &str, z: i128) -> Result<(), AllocError> {
+    text.put(words.as_bytes())?;
+    put_wide(text, z)
+}
+
+impl Answer {
+    // Puts the values, each with a blank before it.
+    // Kept: piece by piece, since most of a day's answers are entries, and `write!` makes each text apart.
+    pub fn put_values(&self, text: &mut Answers) -> Result<(), AllocError> {
+        match *self {
             Answer::Silent | Answer::Done => Ok(()),
             Answer::Site(SettledSite { amount, rows }) => {
-                write!(f, " amount={amount} rows={rows}")
+                put_signed(text, " amount=", i128::from(amount))?;
+                put_natural(text, " rows=", rows as u64)
             }
             Answer::Posted(Posted { lines, paid, load }) => {
-                write!(f, " lines={lines} paid={paid} load={load}")
+                put_natural(text, " lines=", lines as u64)?;
+                put_signed(text, " paid=", paid)?;
+                put_natural(text, " load=", load)
             }
-            Answer::Balance(balance) => write!(f, " {balance}"),
-            Answer::Entry(
-                Told {
-                    stands,
-                    load,
-                    paid,
-                    charged,
-                },
-            ) => {
-                let standing = if *stands { "standing" } else { "empty" };
-                write!(f, " {standing} load={load} paid={paid} charged={charged}")
+            Answer::Balance(balance) => put_signed(text, " ", balance),
+            Answer::Entry(told) => {
+                let load = if told.stands {
+                    " standing load="
+                } else {
+                    " empty load="
+                };
+                put_natural(text, load, u64::from(told.load))?;
+                put_signed(text, " paid=", i128::from(told.paid))?;
+                put_signed(text, " charged=", i128::from(told.charged))
             }
-            Answer::Energy(kwh) => write!(f, " {kwh}"),
+            Answer::Energy(kwh) => put_natural(text, " ", kwh),
         }
     }
 }

@@ -4,7 +4,7 @@ use crate::enrolled::Enrolled;
 use crate::meaning::{TALLY_MEANING, field_name, malformed_meaning, meaning};
 use crate::notdone::{NotDone, Refused};
 use crate::words::Words;
-use day::records::SourceName;
+use day::records::{SlotName, SourceName};
 use std::alloc::{AllocError, Global};
 use std::{fmt, io};
 use text::answers::Answers;
@@ -134,17 +134,39 @@ impl<'o, O: Outlet> Teller<'o, O> {
         self.text.put(written)
     }
 
+    // A slot, with a blank before it: the type by its name, or as # and its number, and the interval.
+    fn slot(&mut self, slot: SlotName) -> Result<(), AllocError> {
+        match slot.type_name() {
+            Some(name) => {
+                self.text.put(b" ")?;
+                self.text.put(name.as_bytes())?;
+            }
+            None => {
+                self.text.put(b" #")?;
+                self.text.number(u64::from(slot.charge_type))?;
+            }
+        }
+        self.text.put(b" ")?;
+        self.text.number(u64::from(slot.interval))
+    }
+
     // The words of a record, each with a blank before it.
     fn words(&mut self, words: Words<'_>) -> Result<(), AllocError> {
         match words {
             Words::None => Ok(()),
             Words::Rule(rule) => write!(self.text, " {rule}"),
-            Words::Resource(resource) => write!(self.text, " {resource}"),
-            Words::Settlement(slot, _, rule) => write!(self.text, " {slot} {rule}"),
-            Words::Slot(slot) => write!(self.text, " {slot}"),
+            Words::Resource(resource) => {
+                self.text.put(b" ")?;
+                self.text.number(u64::from(resource))
+            }
+            Words::Settlement(slot, _, rule) => {
+                self.slot(slot)?;
+                write!(self.text, " {rule}")
+            }
+            Words::Slot(slot) => self.slot(slot),
             Words::Party(party) => self.party(party.written),
             Words::Entry(slot, party) => {
-                write!(self.text, " {slot}")?;
+                self.slot(slot)?;
                 self.party(party.written)
             }
             Words::Source(source) => write!(self.text, " {source}"),
@@ -199,12 +221,15 @@ impl<'o, O: Outlet> Teller<'o, O> {
         if let Ok(Answer::Silent) = outcome {
             return Ok(());
         }
-        write!(self.text, "{line}: ")?;
+        self.text.number(line)?;
+        self.text.put(b": ")?;
         self.text.put(name)?;
         match outcome {
             Ok(answer) => {
                 self.words(words)?;
-                writeln!(self.text, ": ok{answer}")
+                self.text.put(b": ok")?;
+                answer.put_values(&mut self.text)?;
+                self.text.put(b"\n")
             }
             Err(NotDone::Refused(refused)) => {
                 self.words(words)?;
