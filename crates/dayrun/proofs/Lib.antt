@@ -1,0 +1,2 @@
+pub mod SameRows
+pub mod WorkedOut

@@ -1,11 +1,9 @@
 -- What a record that changes the tables of rows, the parts of a site or the layers does.
-use Rattle.std.specs.Prelude.{◌≡◌, List, [], ◌∷◌, ◌++◌, Some, None, pos, replicate}
-use Rattle.charges.specs.declared.period.State.{State}
+use Rattle.std.specs.Prelude.{◌≡◌, [], ◌∷◌, ◌++◌, Some, None, pos, replicate}
 use Rattle.day.specs.declared.records.Change.{Change}
 use Rattle.day.specs.declared.records.Change.TheVariants.{Quarter, Emergency, Loss, Listed, Clear, Bus, Adders, Unit, Site, Period, Setting}
 use Rattle.day.specs.declared.records.SourceName.{SourceName}
 use Rattle.day.specs.declared.records.SourceName.TheVariants as sources
-use Rattle.dayrun.specs.declared.tables.Layers.{Layers}
 use Rattle.dayrun.specs.declared.tables.Parts.{Parts}
 use Rattle.dayrun.specs.declared.tables.Tables.{Tables}
 use Rattle.quarters.specs.Quarters.{slices_of}

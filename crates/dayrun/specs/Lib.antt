@@ -1,3 +1,4 @@
+pub mod Worked
 pub mod Told
 pub mod Enrolments
 pub mod Changes

@@ -1,37 +1,22 @@
 // The open book of a day, and the sources that its calls name.
 use crate::enrolled::Enrolled;
-use crate::notdone::Refused;
+use crate::notdone::{NotDone, Refused};
 use crate::tables::Tables;
+use crate::worked::WorkedRows;
 use assess::refusals::Refusal;
 use book::ledger::Book;
 use book::rows::{Entry, Slot, Told};
-use charges::energy::{EnergyRefusal, energy};
-use charges::interface::{BasisSource, LineSource};
+use charges::energy::energy;
+use charges::interface::LineSource;
 use charges::listed::{Listed, ListedRow};
 use charges::rowsource::RowSource;
-use curves::points::SubmittedCurve;
 use day::held::Held;
 use day::records::{Settlement, SlotName, SourceName};
 use directory::lookup::Directory;
 use directory::parties::PartyCode;
-use emergency::row::EmergencyRow;
 use losses::reader::LossReader;
 use losses::row::LossRow;
-use readers::emergency_rows::EmergencyReader;
-
-// The emergency rows as a source, on the curves of a directory.
-pub fn emergency_source<'a>(
-    tables: &'a Tables,
-    curves: Directory<'a, SubmittedCurve>,
-) -> RowSource<'a, EmergencyRow, EmergencyReader<'a>> {
-    RowSource {
-        rows: tables.emergency.as_slice(),
-        reader: EmergencyReader {
-            curves,
-            quarter: tables.emergency_quarter,
-        },
-    }
-}
+use std::alloc::{AllocError, Global};
 
 // The operating-loss rows as a source.
 pub fn loss_source(tables: &Tables) -> RowSource<'_, LossRow, LossReader> {
@@ -72,7 +57,8 @@ fn interval_of(slot: SlotName) -> usize {
 #[derive(Drop)]
 pub struct Ledger<'d> {
     pub book: Book<'d>,
-    pub curves: Directory<'d, SubmittedCurve>,
+    // the emergency rows that were worked out last, and the curves
+    pub emergency: WorkedRows<'d>,
     // how many parties there are
     pub parties: usize,
     // why the opening was refused, if it was
@@ -82,6 +68,7 @@ pub struct Ledger<'d> {
 impl<'d> Ledger<'d> {
     // Opens the book of a day over its tables of slots and entries.
     pub fn open(
+        heap: Global,
         enrolled: &'d Enrolled,
         codes: &[PartyCode],
         slots: &'d mut [Slot],
@@ -94,14 +81,14 @@ impl<'d> Ledger<'d> {
                 let opened = book.open(parties, enrolled.intervals());
                 Ledger {
                     book,
-                    curves,
+                    emergency: WorkedRows::none(heap, curves),
                     parties,
                     shut: opened.err().map(Refused::from),
                 }
             }
             Err(refused) => Ledger {
                 book,
-                curves: Directory::empty(),
+                emergency: WorkedRows::none(heap, Directory::empty()),
                 parties,
                 shut: Some(refused),
             },
@@ -109,49 +96,60 @@ impl<'d> Ledger<'d> {
     }
 }
 
+// Settles or restates over a source.
+fn post<S: LineSource>(
+    book: &mut Book<'_>,
+    mode: Mode,
+    settlement: &Settlement,
+    source: &S,
+) -> Result<usize, Refusal> {
+    let Settlement {
+        slot,
+        rule,
+        loads,
+        ..
+    } = settlement;
+    let charge_type = u8::held(slot.charge_type);
+    let interval = interval_of(*slot);
+    let loads = loads.as_slice();
+    match mode {
+        Mode::Settle => book.settle(charge_type, interval, loads, source, rule)?,
+        Mode::Restate => book.restate(charge_type, interval, loads, source, rule)?,
+    }
+    Ok(source.count())
+}
+
 impl Ledger<'_> {
     // Settles or restates over the table that the settlement names, under the layers.
     pub fn settle(
         &mut self,
+        heap: Global,
         mode: Mode,
         settlement: &Settlement,
         tables: &Tables,
-    ) -> Result<Posted, Refusal> {
+    ) -> Result<Posted, NotDone> {
         let layers = &tables.layers;
-        match settlement.source {
+        let lines = match settlement.source {
             SourceName::Emergency => {
-                let source = layers.over(emergency_source(tables, self.curves));
-                self.post(mode, settlement, &source)
+                self.work_out(heap, tables)?;
+                let source = layers.over(self.emergency.source());
+                post(&mut self.book, mode, settlement, &source)?
             }
-            SourceName::Loss => self.post(mode, settlement, &layers.over(loss_source(tables))),
-            SourceName::Listed => self.post(mode, settlement, &layers.over(listed_source(tables))),
-        }
+            SourceName::Loss => {
+                let source = layers.over(loss_source(tables));
+                post(&mut self.book, mode, settlement, &source)?
+            }
+            SourceName::Listed => {
+                let source = layers.over(listed_source(tables));
+                post(&mut self.book, mode, settlement, &source)?
+            }
+        };
+        Ok(self.posted(settlement.slot, lines)?)
     }
 
-    fn post<S: LineSource>(
-        &mut self,
-        mode: Mode,
-        settlement: &Settlement,
-        source: &S,
-    ) -> Result<Posted, Refusal> {
-        let Settlement {
-            slot,
-            rule,
-            loads,
-            ..
-        } = settlement;
-        let charge_type = u8::held(slot.charge_type);
-        let interval = interval_of(*slot);
-        let loads = loads.as_slice();
-        match mode {
-            Mode::Settle => self
-                .book
-                .settle(charge_type, interval, loads, source, rule)?,
-            Mode::Restate => self
-                .book
-                .restate(charge_type, interval, loads, source, rule)?,
-        }
-        self.posted(*slot, source.count())
+    // Works the emergency rows out.
+    fn work_out(&mut self, heap: Global, tables: &Tables) -> Result<(), AllocError> {
+        self.emergency.renew(heap, &tables.emergency_quarter, tables.emergency.as_slice())
     }
 
     // What stands in a slot of so many lines, added up over the parties.
@@ -180,12 +178,20 @@ impl Ledger<'_> {
     }
 
     // The energy of the table of that name, under the layers.
-    pub fn energy(&self, name: SourceName, tables: &Tables) -> Result<u64, EnergyRefusal> {
+    pub fn energy(
+        &mut self,
+        heap: Global,
+        name: SourceName,
+        tables: &Tables,
+    ) -> Result<u64, NotDone> {
         let layers = &tables.layers;
-        match name {
-            SourceName::Emergency => energy(&layers.over(emergency_source(tables, self.curves))),
-            SourceName::Loss => energy(&layers.over(loss_source(tables))),
-            SourceName::Listed => energy(&layers.over(listed_source(tables))),
-        }
+        Ok(match name {
+            SourceName::Emergency => {
+                self.work_out(heap, tables)?;
+                energy(&layers.over(self.emergency.source()))?
+            }
+            SourceName::Loss => energy(&layers.over(loss_source(tables)))?,
+            SourceName::Listed => energy(&layers.over(listed_source(tables)))?,
+        })
     }
 }

@@ -2,6 +2,7 @@
 #![tactic(auto)]
 
 pub mod answer;
+pub mod blocks;
 #[cfg(test)]
 mod cases;
 pub mod enrolled;
@@ -16,3 +17,4 @@ pub mod teller;
 #[cfg(test)]
 mod tests;
 pub mod words;
+pub mod worked;

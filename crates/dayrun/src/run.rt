@@ -1,5 +1,6 @@
 // Does the records of a text, one line after another.
 use crate::answer::Answer;
+use crate::blocks::Blocks;
 use crate::enrolled::Enrolled;
 use crate::ledger::{Ledger, Mode};
 use crate::lines::{Line, Lines};
@@ -14,6 +15,7 @@ use day::reading::{Scene, read};
 use day::records::{Call, PartyName, Record, Settlement};
 use std::alloc::Global;
 use std::io;
+use std::io::Read;
 use text::fields::{Fault, Fields};
 
 // A record, with the word that names it as it is written, or why it could not be read.
@@ -52,19 +54,21 @@ fn party_number(party: &PartyName<'_>) -> usize {
 
 // Settles or restates; an accepted settlement goes to the report.
 fn settle<R: Report>(
+    heap: Global,
     mode: Mode,
     settlement: &Settlement,
     ledger: &mut Ledger<'_>,
     tables: &Tables,
     report: &mut R,
 ) -> Result<Answer, NotDone> {
-    let posted = ledger.settle(mode, settlement, tables)?;
+    let posted = ledger.settle(heap, mode, settlement, tables)?;
     report.settled(settlement, posted, ledger, tables)?;
     Ok(Answer::Posted(posted))
 }
 
 // Does a call; where the opening was refused, so is every call.
 fn call<R: Report>(
+    heap: Global,
     call: &Call<'_>,
     ledger: &mut Ledger<'_>,
     tables: &Tables,
@@ -74,8 +78,15 @@ fn call<R: Report>(
         return Err(NotDone::Refused(refused));
     }
     match call {
-        Call::Settle(settlement) => settle(Mode::Settle, settlement, ledger, tables, report),
-        Call::Restate(settlement) => settle(Mode::Restate, settlement, ledger, tables, report),
+        Call::Settle(settlement) => settle(heap, Mode::Settle, settlement, ledger, tables, report),
+        Call::Restate(settlement) => settle(
+            heap,
+            Mode::Restate,
+            settlement,
+            ledger,
+            tables,
+            report,
+        ),
         Call::Void(slot) => {
             ledger.void(*slot)?;
             report.voided(*slot)?;
@@ -83,19 +94,29 @@ fn call<R: Report>(
         }
         Call::Balance(party) => Ok(Answer::Balance(ledger.book.balance(party_number(party))?)),
         Call::Entry(slot, party) => Ok(Answer::Entry(ledger.entry(*slot, party_number(party))?)),
-        Call::Energy(source) => Ok(Answer::Energy(ledger.energy(*source, tables)?)),
+        Call::Energy(source) => Ok(Answer::Energy(ledger.energy(heap, *source, tables)?)),
     }
 }
 
-// Does the records before the first call, and answers the line of that call, if there is one.
-fn gather<'t, O: Outlet>(
+// How far the records of a block were done.
+#[derive(Clone, Copy, PartialEq, Eq, Debug)]
+enum Reached {
+    // all of them; the number of the line behind them
+    End(u64),
+    // up to the first call: the number of its line, and how many bytes there are from that line on
+    Call(u64, usize),
+}
+
+// Does the records of a block before the first call.
+fn gather<O: Outlet>(
     heap: Global,
-    text: &'t [u8],
+    mut number: u64,
+    block: &[u8],
     enrolled: &mut Enrolled,
     tables: &mut Tables,
     teller: &mut Teller<'_, O>,
-) -> io::Result<Option<Line<'t>>> {
-    for line in Lines::numbered(1, text) {
+) -> io::Result<Reached> {
+    for line in Lines::numbered(number, block) {
         if line.is_passed_over() {
             teller.show(line.text)?;
         } else {
@@ -105,7 +126,7 @@ fn gather<'t, O: Outlet>(
                 &tables.scene(&enrolled.parties, true),
             );
             let (words, outcome) = match record {
-                Ok(Record::Call(_)) => return Ok(Some(line)),
+                Ok(Record::Call(_)) => return Ok(Reached::Call(line.number, line.from.len())),
                 Ok(Record::Enrolment(enrolment)) => (
                     Words::None,
                     enrolled
@@ -120,21 +141,23 @@ fn gather<'t, O: Outlet>(
             teller.answer(line.number, word, words, outcome)?;
         }
         teller.pass_on(line.number)?;
+        number = line.number.saturating_add(1);
     }
-    Ok(None)
+    Ok(Reached::End(number))
 }
 
-// Does the records from the first call on.
+// Does the records of a block from the first call on; answers the number of the line behind them.
 fn go_on<R: Report, O: Outlet>(
     heap: Global,
-    first: &Line<'_>,
+    mut number: u64,
+    block: &[u8],
     enrolled: &Enrolled,
     tables: &mut Tables,
     ledger: &mut Ledger<'_>,
     report: &mut R,
     teller: &mut Teller<'_, O>,
-) -> io::Result<()> {
-    for line in Lines::numbered(first.number, first.from) {
+) -> io::Result<u64> {
+    for line in Lines::numbered(number, block) {
         if line.is_passed_over() {
             teller.show(line.text)?;
         } else {
@@ -146,7 +169,7 @@ fn go_on<R: Report, O: Outlet>(
             let (words, outcome) = match record {
                 Ok(Record::Call(asked)) => (
                     Words::of_call(&asked),
-                    call(&asked, ledger, tables, report),
+                    call(heap, &asked, ledger, tables, report),
                 ),
                 // none is read once the first call was met
                 Ok(Record::Enrolment(_)) => (Words::None, Err(NotDone::Malformed(0))),
@@ -157,35 +180,94 @@ fn go_on<R: Report, O: Outlet>(
             teller.answer(line.number, word, words, outcome)?;
         }
         teller.pass_on(line.number)?;
+        number = line.number.saturating_add(1);
+    }
+    Ok(number)
+}
+
+// Does the records before the first call, block by block; answers the number of that call's line, if there is one. Its block is kept from
+// that line on.
+fn gather_all<I: Read, O: Outlet>(
+    heap: Global,
+    blocks: &mut Blocks<'_, I>,
+    enrolled: &mut Enrolled,
+    tables: &mut Tables,
+    teller: &mut Teller<'_, O>,
+) -> io::Result<Option<u64>> {
+    let mut number = 1;
+    for _ in 0..u64::MAX {
+        if !blocks.advance()? {
+            break;
+        }
+        match gather(heap, number, blocks.lines(), enrolled, tables, teller)? {
+            Reached::End(next) => number = next,
+            Reached::Call(first, left) => {
+                blocks.keep(left);
+                return Ok(Some(first));
+            }
+        }
+    }
+    Ok(None)
+}
+
+// Does the records from the first call on, block by block.
+fn go_on_to_the_end<I: Read, R: Report, O: Outlet>(
+    heap: Global,
+    first: u64,
+    blocks: &mut Blocks<'_, I>,
+    enrolled: &Enrolled,
+    tables: &mut Tables,
+    ledger: &mut Ledger<'_>,
+    report: &mut R,
+    teller: &mut Teller<'_, O>,
+) -> io::Result<()> {
+    let mut number = first;
+    for _ in 0..u64::MAX {
+        number = go_on(
+            heap,
+            number,
+            blocks.lines(),
+            enrolled,
+            tables,
+            ledger,
+            report,
+            teller,
+        )?;
+        if !blocks.advance()? {
+            break;
+        }
     }
     Ok(())
 }
 
 // Does the records of a text, and tells what the report makes of them.
-pub fn run<R: Report, O: Outlet>(
+pub fn run<I: Read, R: Report, O: Outlet>(
     heap: Global,
-    text: &[u8],
+    input: &mut I,
     report: &mut R,
     outlet: &mut O,
 ) -> io::Result<Tally> {
+    let mut blocks = Blocks::of(heap, input);
     let mut teller = Teller::new(heap, outlet, report.manner());
     let mut enrolled = Enrolled::new(heap);
     let mut tables = Tables::new(heap);
-    match gather(heap, text, &mut enrolled, &mut tables, &mut teller)? {
+    match gather_all(heap, &mut blocks, &mut enrolled, &mut tables, &mut teller)? {
         Some(first) => {
             let codes = enrolled.parties.codes(heap)?;
             let mut slots = Vec::from_elem(heap, Slot::default(), enrolled.slots())?;
             let mut entries = Vec::from_elem(heap, Entry::default(), enrolled.entries())?;
             let mut ledger = Ledger::open(
+                heap,
                 &enrolled,
                 codes.as_slice(),
                 slots.as_mut_slice(),
                 entries.as_mut_slice(),
             );
-            teller.opening(first.number, &enrolled, ledger.shut)?;
-            go_on(
+            teller.opening(first, &enrolled, ledger.shut)?;
+            go_on_to_the_end(
                 heap,
-                &first,
+                first,
+                &mut blocks,
                 &enrolled,
                 &mut tables,
                 &mut ledger,

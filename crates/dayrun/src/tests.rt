@@ -28,7 +28,8 @@ fn answered(heap: Global, text: &[u8], manner: Manner) -> io::Result<(Vec<u8>, T
     let mut kept = Kept {
         text: Vec::new(heap),
     };
-    let tally = run(heap, text, &mut Run { manner }, &mut kept)?;
+    let mut input = text;
+    let tally = run(heap, &mut input, &mut Run { manner }, &mut kept)?;
     Ok((kept.text, tally))
 }
 

@@ -1,10 +1,11 @@
 -- The line of an emergency row keeps within the limits of lines. Proved here.
 use Rattle.std.specs.Prelude.{◌≡◌, ℕ, ◌≤◌, true, List, length, Option, None, Some, Result, unsigned_abs, refl}
 use Rattle.std.specs.Option.{option_map, option_and_then}
-use Rattle.std.proofs.Common.{sym}
+use Rattle.std.specs.Result.{ForOk, ForErr}
+use Rattle.std.proofs.Common.{sym, subst}
 use Rattle.std.proofs.lemmas.Bool.{cond_both}
 use Rattle.std.proofs.lemmas.List.Elements.{recursion_from_All}
-use Rattle.charges.specs.Lines.{Ranged, Based}
+use Rattle.charges.specs.Lines.{Line, Ranged, Based}
 use Rattle.curves.proofs.Acceptance.{accepted_says}
 use Rattle.curves.proofs.Bounds.{completed_cheap}
 use Rattle.curves.proofs.Soundness.{sound}
@@ -24,15 +25,16 @@ use Rattle.quarters.specs.declared.quarter.QuarterHour.{QuarterHour}
 use Rattle.quarters.specs.Quarters.{slices_of}
 use Rattle.readers.specs.Emergency.{submitted_for, usable, settled, payment_of, fault_at, emergency_line, emergency_basis}
 use Rattle.readers.specs.Lines.{line_from, basis_from}
+use Rattle.readers.specs.Worked.{Payable, cased_ranged, cased_based}
 use Rattle.std.specs.List.{AllByRecursion}
 
 -- within the limits of an entry
-abbrev Payable : Payment → Type 0
-Payable paid = (unsigned_abs paid.amount ≤ 3000000000) × (paid.basis ≤ 1000000)
+abbrev Fair : Payment → Type 0
+Fair paid = (unsigned_abs paid.amount ≤ 3000000000) × (paid.basis ≤ 1000000)
 
 module _ (quarter : QuarterHour) (row : EmergencyRow) where
   -- of a fitting row
-  paid_payable : (c : SubmittedCurve) → accepted c ≡ true → Fitting (length (slices_of quarter)) row → Payable (paid_on (slices_of quarter) (completed c) row)
+  paid_payable : (c : SubmittedCurve) → accepted c ≡ true → Fitting (length (slices_of quarter)) row → Fair (paid_on (slices_of quarter) (completed c) row)
   unfolding paid_on
   paid_payable c e fit =
       let xs = sliced (completed c) row.cap (slices_of quarter) row.bases in
@@ -60,3 +62,11 @@ emergency_ranged quarter curves n row = (emergency_within quarter curves n row).
 
 pub emergency_based : (quarter : QuarterHour) (curves : List SubmittedCurve) (n : ℕ) (row : EmergencyRow) → Based (emergency_line (slices_of quarter) curves n row) (emergency_basis (slices_of quarter) curves row)
 emergency_based quarter curves n row = (emergency_within quarter curves n row).1
+
+-- what a row that is worked out carries of it
+pub emergency_cased : (quarter : QuarterHour) (curves : List SubmittedCurve) (n : ℕ) (row : EmergencyRow) (line : Line) (basis : ℕ) →
+    line ≡ emergency_line (slices_of quarter) curves n row → basis ≡ emergency_basis (slices_of quarter) curves row → ForOk line Payable × ForOk line (λ _. basis ≤ 1000000) × ForErr line (λ _. basis ≡ 0)
+emergency_cased quarter curves n row line basis is rests =
+    let within = emergency_within quarter curves n row in
+    let rested = cased_based line basis (subst (Based line) (sym rests) (subst (λ l. Based l (emergency_basis (slices_of quarter) curves row)) (sym is) within.1)) in
+    (cased_ranged line (subst Ranged (sym is) within.0), rested.0, rested.1)

@@ -1,3 +1,4 @@
 pub mod Lines
 pub mod Emergency
+pub mod Worked
 pub mod EmergencyLaws

@@ -5,7 +5,9 @@ ghost use Rattle.curves.specs.Curves.{points_of};
 ghost use Rattle.quarters.specs.Quarters.{slices_of};
 ghost use Rattle.readers.specs.Emergency.{submitted_for, points_for, payment_of, fault_at, emergency_line, emergency_basis};
 ghost use Rattle.readers.specs.EmergencyLaws.{emergency_ranged};
+ghost use Rattle.readers.specs.Lines.{line_from, basis_from};
 
+use crate::worked::WorkedRow;
 use charges::fault::{Cause, Fault};
 use charges::reader::{BasisReader, Reader};
 use curves::curve::Curve;
@@ -31,6 +33,25 @@ fn fault_at(n: usize, fault: RowFault) -> Fault
         RowFault::Outside(field) => Fault::in_source(Cause::FieldOutside, n, field.number()),
         RowFault::NoCurve => Fault::in_source(Cause::NoCurve, n, 0),
     }
+}
+
+// The row as line n, from what it is paid.
+fn line_of(
+    n: usize,
+    row: &EmergencyRow,
+    payment: Result<Payment, RowFault>,
+) -> Result<(u16, u8, i64), Fault>
+    ensures { result ≡ line_from (λ paid. paid.amount) (fault_at n) row.now.resource row.now.party payment }
+{
+    let payment = payment.map_err(|fault| fault_at(n, fault))?;
+    Ok((row.resource, row.party, payment.amount))
+}
+
+// The kWh that the row rests on, from what it is paid.
+fn basis_of(payment: Result<Payment, RowFault>) -> u32
+    ensures { result ≡ basis_from (λ paid. paid.basis) payment }
+{
+    payment.map_or(0, |payment| payment.basis)
 }
 
 impl<'a> EmergencyReader<'a> {
@@ -59,6 +80,18 @@ impl<'a> EmergencyReader<'a> {
         let curve = self.curve(row.resource, row.hour).ok_or(RowFault::NoCurve)?;
         Ok(fitting.payment_on(&curve))
     }
+
+    // The row as line n, worked out.
+    pub fn worked(&self, n: usize, row: &EmergencyRow) -> WorkedRow
+        ensures line { result.line ≡ emergency_line (slices_of self.now.quarter) self.now.curves.records.now n row.now }
+        ensures basis { result.basis ≡ emergency_basis (slices_of self.now.quarter) self.now.curves.records.now row.now }
+    {
+        let payment = self.payment(row);
+        WorkedRow {
+            line: line_of(n, row, payment),
+            basis: basis_of(payment),
+        }
+    }
 }
 
 impl<'a> Reader<EmergencyRow> for EmergencyReader<'a> {
@@ -67,8 +100,7 @@ impl<'a> Reader<EmergencyRow> for EmergencyReader<'a> {
     ghost ranged = { λ s n row. emergency_ranged s.quarter s.curves.records.now n row };
 
     fn read(&self, n: usize, row: &EmergencyRow) -> Result<(u16, u8, i64), Fault> {
-        let payment = self.payment(row).map_err(|fault| fault_at(n, fault))?;
-        Ok((row.resource, row.party, payment.amount))
+        line_of(n, row, self.payment(row))
     }
 }
 
@@ -77,6 +109,6 @@ impl<'a> BasisReader<EmergencyRow> for EmergencyReader<'a> {
 
     #[tactic(auto, using(crate::specs::EmergencyLaws::emergency_based))]
     fn rest(&self, n: usize, row: &EmergencyRow) -> u32 {
-        self.payment(row).map_or(0, |payment| payment.basis)
+        basis_of(self.payment(row))
     }
 }

@@ -2,3 +2,5 @@
 #![tactic(auto)]
 
 pub mod emergency_rows;
+pub mod worked;
+pub mod worked_rows;

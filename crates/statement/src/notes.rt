@@ -3,8 +3,10 @@ use crate::steps::{Steps, tell_layers};
 use charges::interface::LineSource;
 use charges::rowsource::RowSource;
 use day::records::{Settlement, SlotName, SourceName};
-use dayrun::ledger::{Ledger, Posted, emergency_source, listed_source, loss_source};
+use dayrun::ledger::{Ledger, Posted, listed_source, loss_source};
 use dayrun::tables::{Layers, Tables};
+use emergency::row::EmergencyRow;
+use readers::emergency_rows::EmergencyReader;
 use sharing::choice::RuleChoice;
 use std::alloc::{AllocError, Global};
 use text::answers::Answers;
@@ -23,6 +25,20 @@ pub struct Standing {
     pub rule: RuleChoice,
     pub posted: Posted,
     pub lines: Vec<LineNote>,
+}
+
+// The emergency rows as a source, each worked out anew with its steps.
+fn emergency_source<'a>(
+    tables: &'a Tables,
+    ledger: &Ledger<'a>,
+) -> RowSource<'a, EmergencyRow, EmergencyReader<'a>> {
+    RowSource {
+        rows: tables.emergency.as_slice(),
+        reader: EmergencyReader {
+            curves: ledger.emergency.curves,
+            quarter: tables.emergency_quarter,
+        },
+    }
 }
 
 // Notes each line of a source under the layers.
@@ -58,9 +74,7 @@ impl Standing {
     ) -> Result<Standing, AllocError> {
         let layers = &tables.layers;
         let lines = match settlement.source {
-            SourceName::Emergency => {
-                note_lines(heap, layers, emergency_source(tables, ledger.curves))?
-            }
+            SourceName::Emergency => note_lines(heap, layers, emergency_source(tables, ledger))?,
             SourceName::Loss => note_lines(heap, layers, loss_source(tables))?,
             SourceName::Listed => note_lines(heap, layers, listed_source(tables))?,
         };

@@ -15,24 +15,13 @@ use dayrun::run::run;
 use dayrun::teller::{Manner, Tally};
 use statement::journal::Journal;
 use statement::statement::Statement;
+use std::fs::File;
 use std::io::{Read, Write};
 use std::process::ExitCode;
-use std::{env, fs, io};
+use std::{env, io};
 
 // The status where the words of the call ask for nothing that there is.
 const UNCLEAR: u8 = 2;
-
-// The bytes of the text: of the file of that name, or of the standard input.
-fn read_text(rt: &HostRuntime, file: Option<&str>) -> io::Result<Vec<u8>> {
-    match file {
-        Some("-") | None => {
-            let mut bytes = Vec::new(rt.alloc());
-            rt.stdin().read_to_end(&mut bytes)?;
-            Ok(bytes)
-        }
-        Some(path) => fs::read(rt, path),
-    }
-}
 
 // The status of a day: 1 where a record was malformed.
 fn status_of(tally: Tally) -> ExitCode {
@@ -44,13 +33,26 @@ fn status_of(tally: Tally) -> ExitCode {
 }
 
 // Does a text and makes the report of it.
-fn make<R: Report>(
+fn make<I: Read, R: Report>(
     rt: &HostRuntime,
     progress: bool,
-    text: &[u8],
+    input: &mut I,
     report: &mut R,
 ) -> io::Result<Tally> {
-    run(rt.alloc(), text, report, &mut Console { rt, progress })
+    run(rt.alloc(), input, report, &mut Console { rt, progress })
+}
+
+// The same with the text of the file of that name, or of the standard input.
+fn make_of<R: Report>(
+    rt: &HostRuntime,
+    progress: bool,
+    file: Option<&str>,
+    report: &mut R,
+) -> io::Result<Tally> {
+    match file {
+        Some("-") | None => make(rt, progress, &mut rt.stdin(), report),
+        Some(path) => make(rt, progress, &mut File::open(rt, path)?, report),
+    }
 }
 
 // What is told of the records that are not answered.
@@ -77,21 +79,20 @@ fn work(rt: &HostRuntime, order: Order<'_>) -> io::Result<ExitCode> {
             let mut shown = Run {
                 manner: Manner::SHOWN,
             };
-            Ok(status_of(make(rt, progress, SAMPLE.as_bytes(), &mut shown)?))
+            let mut sample = SAMPLE.as_bytes();
+            Ok(status_of(make(rt, progress, &mut sample, &mut shown)?))
         }
         Command::Run { explains } => {
-            let text = read_text(rt, file)?;
             let manner = if explains {
                 Manner::EXPLAINED
             } else {
                 Manner::PLAIN
             };
-            Ok(status_of(make(rt, progress, text.as_slice(), &mut Run { manner })?))
+            Ok(status_of(make_of(rt, progress, file, &mut Run { manner })?))
         }
         Command::Statement { party } => {
-            let text = read_text(rt, file)?;
             let mut statement = Statement::new(rt.alloc(), party.map(str::as_bytes));
-            let tally = make(rt, progress, text.as_slice(), &mut statement)?;
+            let tally = make_of(rt, progress, file, &mut statement)?;
             tell_left_out(rt, tally)?;
             if !statement.told && party.is_some() {
                 eprintln!(rt;
@@ -102,8 +103,7 @@ fn work(rt: &HostRuntime, order: Order<'_>) -> io::Result<ExitCode> {
             Ok(status_of(tally))
         }
         Command::Journal { date } => {
-            let text = read_text(rt, file)?;
-            let tally = make(rt, progress, text.as_slice(), &mut Journal { date })?;
+            let tally = make_of(rt, progress, file, &mut Journal { date })?;
             tell_left_out(rt, tally)?;
             Ok(status_of(tally))
         }

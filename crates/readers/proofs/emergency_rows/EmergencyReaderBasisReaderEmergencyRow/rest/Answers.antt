@@ -9,5 +9,5 @@ pub returns-clause-based : goal.returns-clause-based
 returns-clause-based c =
     let q = c.args.self.now.quarter in
     let curves = c.args.self.now.curves.records.now in
-    let is : c.map_or.result ≡ emergency_basis (slices_of q) curves c.args.row.now = search rules in
+    let is : c.basis_of.result ≡ emergency_basis (slices_of q) curves c.args.row.now = search rules in
     subst (Based (emergency_line (slices_of q) curves c.args.n c.args.row.now)) (sym is) (emergency_based q curves c.args.n c.args.row.now)
