@@ -1,27 +1,19 @@
 -- The items of a list are read one after another, and their numbers put behind those that are there.
-use Rattle.std.proofs.Common.{◌≡◌, ℕ, ◌+◌, ◌-◌, ◌≤◌, Bool, not, List, [], ◌∷◌, ◌++◌, map, length, take, drop, Some, None, Option, Bor, sym, refl, ap, ◌∙◌, arith}
+use Rattle.std.proofs.Common.{◌≡◌, ℕ, ◌+◌, ◌-◌, ◌<◌, ◌≤◌, Bool, true, false, List, [], ◌∷◌, ◌++◌, map, length, take, Some, None, Option, MatchOption, Bor, sym, ap, ◌∙◌, ⊎_elim, arith}
 use Rattle.std.proofs.Math.Seq.{take-append_seam, take-append-add}
-use Rattle.std.proofs.lemmas.List.{drop_more, drop_all, take_all}
-use Rattle.memchr.specs.Find.{IsFirstByte, is_byte}
-use Rattle.text.specs.Text.{front, trimmed, cut, and_then}
-use Rattle.text.specs.Lists.{semicolon, numbers_in, leading}
-use Rattle.text.proofs.Fronts.{front_first, past_first, first_byte}
+use Rattle.std.proofs.lemmas.Bool.{cases_Bool}
+use Rattle.text.specs.Text.{front, past, trimmed, cut, and_then}
+use Rattle.text.specs.Lists.{semicolon, in_item, numbers_in, leading}
 use Rattle.text.proofs.Pieces.{behind, cut_front}
 
--- the first piece of a text, and those behind it
-pub cut_at : (s : List ℕ) (n : ℕ) → IsFirstByte (is_byte 59) s (Some n) → cut semicolon s ≡ take n s ∷ cut semicolon (drop (n + 1) s)
-cut_at s n at =
-    let e = sym (first_byte 59 s (Some n) at) in
-    let piece = ap (λ k. take k s) e ∙ front_first (λ c. not (semicolon c)) semicolon (λ _. refl) s in
-    let others = ap (λ k. drop k s) e ∙ past_first (λ c. not (semicolon c)) semicolon (λ _. refl) s in
-    cut_front semicolon s ∙ ap (λ l. front (λ c. not (semicolon c)) s ∷ behind semicolon l) (sym others ∙ drop_more s n 0 at.0.high) ∙ ap (λ f. f ∷ cut semicolon (drop (n + 1) s)) (sym piece)
+past_length : (s : List ℕ) → length (past in_item s) ≤ length s
+past_length [] = omega arith
+past_length (c ∷ s) = ⊎_elim (λ (e : in_item c ≡ true). simp e (omega (arith, past_length s))) (λ (e : in_item c ≡ false). simp e (omega arith)) (cases_Bool (in_item c))
 
-pub cut_whole : (s : List ℕ) → IsFirstByte (is_byte 59) s None → cut semicolon s ≡ s ∷ []
-cut_whole s none =
-    let e = sym (first_byte 59 s None none) in
-    let piece = sym (take_all (length s) s (omega arith)) ∙ ap (λ k. take k s) e ∙ front_first (λ c. not (semicolon c)) semicolon (λ _. refl) s in
-    let others = sym (drop_all (length s) s (omega arith)) ∙ ap (λ k. drop k s) e ∙ past_first (λ c. not (semicolon c)) semicolon (λ _. refl) s in
-    cut_front semicolon s ∙ ap (λ l. front (λ c. not (semicolon c)) s ∷ behind semicolon l) (sym others) ∙ ap (λ f. f ∷ []) (sym piece)
+-- the first item of a text, and those behind it
+pub cut_first : (s r : List ℕ) (o : Option (Bor (List ℕ))) → r ≡ past in_item s → MatchOption o (r ≡ []) (λ others. (c : ℕ) × (r ≡ c ∷ others.now)) → MatchOption o (cut semicolon s ≡ front in_item s ∷ []) (λ others. (cut semicolon s ≡ front in_item s ∷ cut semicolon others.now) × (length others.now < length s))
+cut_first s r None e none = cut_front semicolon s ∙ ap (λ l. front in_item s ∷ behind semicolon l) (sym e ∙ none)
+cut_first s r (Some others) e some = (cut_front semicolon s ∙ ap (λ l. front in_item s ∷ behind semicolon l) (sym e ∙ some.1), omega (arith, past_length s, ap length e, ap length some.1))
 
 -- what is left of a list
 abbrev pub bytes_left : Option (Bor (List ℕ)) → ℕ

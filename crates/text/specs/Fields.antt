@@ -1,7 +1,6 @@
 -- The fields of a line. While they are read, what is left of the line is nothing, or a comma with the next field behind it.
 use Rattle.std.specs.Prelude.{◌≡◌, ℕ, ◌+◌, length, Bool, true, false, cond, not, List, [], ◌∷◌, Some, None, Option, ◌==◌}
-use Rattle.text.specs.Text.{every, front, past, trimmed, cut}
-use Rattle.text.specs.Numbers.{digit, digits_in}
+use Rattle.text.specs.Text.{front, past, trimmed, cut}
 
 -- what separates fields
 abbrev pub comma : ℕ → Bool
@@ -35,9 +34,3 @@ moved false s = s
 pub record Passes (read : Bool) (before after : List ℕ) : Type 0 where
   pub rest : after ≡ moved read before
   pub count : read ≡ true → length (left before) ≡ 1 + length (left after)
-
--- A field at the front of a text is digits and nothing else, which write the value; the rest stands behind the field.
-pub record Plain (text : List ℕ) (value : ℕ) (rest : List ℕ) : Type 0 where
-  pub digits : every digit (front in_field text) ≡ true
-  pub written : digits_in (front in_field text) ≡ Some value
-  pub follows : rest ≡ past in_field text

@@ -1,5 +1,5 @@
 -- Lists of numbers in a field.
-use Rattle.std.specs.Prelude.{◌≡◌, ℕ, ◌≤◌, Bool, List, [], ◌∷◌, ◌++◌, map, take, Some, None, Ok, Err, Option, Result, ◌==◌}
+use Rattle.std.specs.Prelude.{◌≡◌, ℕ, ◌≤◌, Bool, not, List, [], ◌∷◌, ◌++◌, map, take, Some, None, Ok, Err, Option, Result, ◌==◌}
 use Rattle.text.specs.declared.fields.Fault.{Fault}
 use Rattle.text.specs.declared.fields.Fault.TheVariants.{Malformed, Memory}
 use Rattle.text.specs.Text.{trimmed, cut, and_then}
@@ -8,6 +8,10 @@ use Rattle.text.specs.Numbers.{number_in}
 -- what separates the items of a list
 abbrev pub semicolon : ℕ → Bool
 semicolon c = c == 59
+
+-- an item ends at a semicolon
+abbrev pub in_item : ℕ → Bool
+in_item c = not (semicolon c)
 
 -- x before the others, where there are others
 abbrev pub cons_to : {A : Type 0} → Option (List A) → A → Option (List A)

@@ -1,6 +1,6 @@
 -- The numbers that texts write.
-use Rattle.std.specs.Prelude.{◌≡◌, ℕ, ◌+◌, ◌-◌, ◌*◌, Bool, true, false, cond, ◌&&◌, List, [], ◌∷◌, ℤ, pos, neg_ℤ, Some, None, Option, ◌==◌, nat_le, nat_lt}
-use Rattle.text.specs.Text.{every, front, past, and_then}
+use Rattle.std.specs.Prelude.{◌≡◌, ℕ, ◌+◌, ◌-◌, ◌*◌, Bool, true, false, cond, not, ◌&&◌, ◌||◌, List, [], ◌∷◌, ℤ, pos, neg_ℤ, Some, None, Option, ◌==◌, nat_le, nat_lt}
+use Rattle.text.specs.Text.{every, front, past, until, and_then}
 
 -- a decimal digit
 abbrev pub digit : ℕ → Bool
@@ -24,6 +24,16 @@ digits_in s = cond (every digit s) (magnitude s) None
 pub record Leads (text : List ℕ) (value : ℕ) (rest : List ℕ) : Type 0 where
   pub written : digits_in (front digit text) ≡ Some value
   pub follows : rest ≡ past digit text
+
+-- a byte that stands in no number, and so can end one
+abbrev pub ends_number : ℕ → Bool
+ends_number c = not (digit c || c == 45)
+
+-- What stands before the next byte `end`, or the text's end, is digits and nothing else; they write the value, and the rest follows them.
+pub record Plain (end : ℕ) (text : List ℕ) (value : ℕ) (rest : List ℕ) : Type 0 where
+  pub digits : every digit (front (until end) text) ≡ true
+  pub written : digits_in (front (until end) text) ≡ Some value
+  pub follows : rest ≡ past (until end) text
 
 -- A kind of number says which number a minus or none and a magnitude make, if any.
 

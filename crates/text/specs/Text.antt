@@ -1,5 +1,5 @@
 -- Texts as lists of bytes: blanks, the front of a text, and what stands between separators.
-use Rattle.std.specs.Prelude.{ℕ, Bool, true, false, cond, ◌&&◌, ◌||◌, List, [], ◌∷◌, Some, None, Option, ◌==◌}
+use Rattle.std.specs.Prelude.{ℕ, Bool, true, false, cond, not, ◌&&◌, ◌||◌, List, [], ◌∷◌, Some, None, Option, ◌==◌}
 
 -- a space or a tab
 abbrev pub blank : ℕ → Bool
@@ -24,6 +24,10 @@ front p (c ∷ s) = cond (p c) (c ∷ front p s) []
 abbrev pub past : (ℕ → Bool) → List ℕ → List ℕ
 past p [] = []
 past p (c ∷ s) = cond (p c) (past p s) (c ∷ s)
+
+-- a byte other than the one that ends a text
+abbrev pub until : ℕ → ℕ → Bool
+until end c = not (c == end)
 
 -- a text without the blanks at its end
 abbrev pub trim_end : List ℕ → List ℕ

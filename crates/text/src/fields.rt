@@ -1,12 +1,12 @@
 // The fields of a line, read from the left.
 ghost use Rattle.std.specs.Prelude.{◌≡◌, count_by, length, is_some, Some, None, IfSome, MatchOption, ◌==◌};
 ghost use Rattle.text.specs.declared.fields.Fault.TheVariants.{Memory};
-ghost use Rattle.text.specs.Text.{front, past, trimmed, and_then};
+ghost use Rattle.text.specs.Text.{front, past, until, trimmed, and_then};
 ghost use Rattle.text.specs.Numbers.{number_in, number_or_zero_in};
-ghost use Rattle.text.specs.Fields.{comma, in_field, left, next_text, Passes, Plain};
+ghost use Rattle.text.specs.Fields.{comma, in_field, left, next_text, Passes};
 
 use crate::blanks;
-use crate::numbers::{Number, leading, number_in};
+use crate::numbers::{Number, number_in, plain_number};
 use memchr::memchr;
 use std::alloc::{AllocError, AllocFailed};
 
@@ -47,40 +47,13 @@ fn commas(line: &[u8]) -> usize
     line.iter().filter(|b| **b == b',').count()
 }
 
-// The text up to the next comma, without the blanks around it, and what follows.
-fn first_text(line: &[u8]) -> (&[u8], &[u8])
-    ensures value { result.0.now ≡ trimmed (front in_field line.now) }
-    ensures rest { result.1.now ≡ past in_field line.now }
+// The text up to the next `END`, without the blanks around it, and what follows.
+pub(crate) fn first_text<const END: u8>(text: &[u8]) -> (&[u8], &[u8])
+    ensures value { result.0.now ≡ trimmed (front (until END) text.now) }
+    ensures rest { result.1.now ≡ past (until END) text.now }
 {
-    let end = memchr(b',', line).unwrap_or(line.len());
-    (blanks::trimmed(&line[..end]), &line[end..])
-}
-
-// The value of a field at the front of a line that is digits and nothing else, and what follows the field. None where it wants a
-// closer look.
-#[tactic(auto, using(crate::proofs::Plain::plain))]
-fn plain_digits(line: &[u8]) -> Option<(u64, &[u8])>
-    ensures { IfSome result (λ r. Plain line.now r.0 r.1.now) }
-{
-    let (value, rest) = leading(line)?;
-    matches!(rest, [] | [b',', ..]).then_some((value, rest))
-}
-
-// The same of digits with at most one minus before them, as a number.
-fn plain_number<T: Number>(line: &[u8]) -> Option<(T, &[u8])>
-    ensures value { IfSome result (λ r. number_in T.Number.kind (trimmed (front in_field line.now)) ≡ Some r.0) }
-    ensures rest { IfSome result (λ r. r.1.now ≡ past in_field line.now) }
-{
-    match line.strip_prefix(b"-") {
-        Some(digits) => {
-            let (magnitude, rest) = plain_digits(digits)?;
-            Some((T::from_parts(true, magnitude)?, rest))
-        }
-        None => {
-            let (magnitude, rest) = plain_digits(line)?;
-            Some((T::from_parts(false, magnitude)?, rest))
-        }
-    }
+    let end = memchr(END, text).unwrap_or(text.len());
+    (blanks::trimmed(&text[..end]), &text[end..])
 }
 
 impl<'t> Fields<'t> {
@@ -89,7 +62,7 @@ impl<'t> Fields<'t> {
         ensures name { result.0.now ≡ trimmed (front in_field line.now) }
         ensures rest { result.1.rest.now ≡ past in_field line.now }
     {
-        let (name, rest) = first_text(line);
+        let (name, rest) = first_text::<b','>(line);
         (name, Fields { rest })
     }
 
@@ -112,7 +85,7 @@ impl<'t> Fields<'t> {
         ensures value { MatchOption result (next_text self.old.rest.now ≡ None) (λ t. next_text self.old.rest.now ≡ Some t.now) }
         ensures passes { Passes (is_some result) self.old.rest.now self.new.rest.now }
     {
-        let (text, rest) = first_text(self.rest.strip_prefix(b",")?);
+        let (text, rest) = first_text::<b','>(self.rest.strip_prefix(b",")?);
         self.rest = rest;
         Some(text)
     }
@@ -122,7 +95,7 @@ impl<'t> Fields<'t> {
         ensures value { IfSome result (λ number. and_then (next_text self.old.rest.now) (number_in T.Number.kind) ≡ Some number) }
         ensures passes { Passes (is_some result) self.old.rest.now self.new.rest.now }
     {
-        let (number, rest) = plain_number(self.rest.strip_prefix(b",")?)?;
+        let (number, rest) = plain_number::<T, b','>(self.rest.strip_prefix(b",")?)?;
         self.rest = rest;
         Some(number)
     }

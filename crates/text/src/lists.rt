@@ -1,22 +1,33 @@
 // Lists of numbers in a field.
-ghost use Rattle.std.specs.Prelude.{◌≡◌, ◌<◌, [], ◌∷◌, length, is_ok, Some, MatchOption, vec_len, vec_capacity};
-ghost use Rattle.text.specs.Text.{cut, and_then};
+ghost use Rattle.std.specs.Prelude.{◌≡◌, ℕ, ◌<◌, [], ◌∷◌, length, is_ok, Some, MatchOption, vec_len, vec_capacity};
+ghost use Rattle.text.specs.Text.{front, trimmed, cut, and_then};
+ghost use Rattle.text.specs.Numbers.{number_in};
 ghost use Rattle.text.specs.Fields.{next_text, Passes};
-ghost use Rattle.text.specs.Lists.{semicolon, list_in, ListRead, front_in, Stopped};
+ghost use Rattle.text.specs.Lists.{semicolon, in_item, list_in, ListRead, front_in, Stopped};
 
-use crate::blanks;
-use crate::fields::{Fault, Fields};
-use crate::numbers::{Number, number_in};
-use memchr::memchr;
+use crate::fields::{Fault, Fields, first_text};
+use crate::numbers::{Number, number_in, plain_number};
 
-// The text up to the first semicolon, and what stands behind that, if there is one.
-fn first_item(text: &[u8]) -> (&[u8], Option<&[u8]>)
-    ensures { MatchOption result.1 (cut semicolon text.now ≡ result.0.now ∷ []) (λ others. (cut semicolon text.now ≡ result.0.now ∷ cut semicolon others.now) × (length others.now < length text.now)) }
+// What stands behind the semicolon that the rest begins with. None where nothing is left.
+fn others(rest: &[u8]) -> Option<&[u8]>
+    ensures { MatchOption result (rest.now ≡ []) (λ others. (c : ℕ) × (rest.now ≡ c ∷ others.now)) }
 {
-    match memchr(b';', text) {
-        Some(n) => (&text[..n], Some(&text[n + 1..])),
-        None => (text, None),
+    match rest {
+        [_, others @ ..] => Some(others),
+        [] => None,
     }
+}
+
+// The number that the first item writes, if it writes one, and the items behind it, if there are any.
+fn first_number<T: Number>(items: &[u8]) -> (Option<T>, Option<&[u8]>)
+    ensures number { result.0 ≡ number_in T.Number.kind (trimmed (front in_item items.now)) }
+    ensures others { MatchOption result.1 (cut semicolon items.now ≡ front in_item items.now ∷ []) (λ others. (cut semicolon items.now ≡ front in_item items.now ∷ cut semicolon others.now) × (length others.now < length items.now)) }
+{
+    if let Some((number, rest)) = plain_number::<T, b';'>(items) {
+        return (Some(number), others(rest));
+    }
+    let (item, rest) = first_text::<b';'>(items);
+    (number_in(item), others(rest))
 }
 
 // Puts the numbers of the list that the field's text writes behind those of `into`.
@@ -30,9 +41,8 @@ fn read_list<T: Number>(field: u32, text: &[u8], into: &mut Vec<T>) -> Result<()
     // Kept: a `for` over `split` gets no proof in a function with a type parameter.
     let mut left = Some(text);
     while let Some(items) = left {
-        let (item, others) = first_item(items);
-        let number = number_in(blanks::trimmed(item)).ok_or(Fault::Malformed(field))?;
-        into.push(number)?;
+        let (number, others) = first_number(items);
+        into.push(number.ok_or(Fault::Malformed(field))?)?;
         left = others;
     }
     Ok(())

@@ -1,6 +1,7 @@
 // The numbers that a text writes.
-ghost use Rattle.std.specs.Prelude.{◌≡◌, ℕ, Bool, true, false, is_some, Option, IfSome, refl};
-ghost use Rattle.text.specs.Numbers.{signed64, natural32, digits_in, number_in, Leads};
+ghost use Rattle.std.specs.Prelude.{◌≡◌, ℕ, Bool, true, false, is_some, Some, Option, IfSome, refl};
+ghost use Rattle.text.specs.Text.{front, past, until, trimmed};
+ghost use Rattle.text.specs.Numbers.{signed64, natural32, digits_in, number_in, Leads, ends_number, Plain};
 
 // A kind of number.
 pub trait Number: Drop {
@@ -71,7 +72,7 @@ const SMALL: u64 = 99_999_999_999_999_999;
 
 // The number that the digits at the front of a text write, and what follows them. None where there are none, or so many
 // that they want a closer look.
-pub(crate) fn leading(text: &[u8]) -> Option<(u64, &[u8])>
+fn leading(text: &[u8]) -> Option<(u64, &[u8])>
     ensures { IfSome result (λ r. Leads text.now r.0 r.1.now) }
 {
     let mut value = 0;
@@ -98,5 +99,35 @@ pub fn number_in<T: Number>(text: &[u8]) -> Option<T>
     match text {
         [b'-', digits @ ..] => T::from_parts(true, magnitude(digits)?),
         digits => T::from_parts(false, magnitude(digits)?),
+    }
+}
+
+// The number that the text up to the next `END` writes in digits and nothing else, and what follows. None where it wants a closer look.
+fn plain_digits<const END: u8>(text: &[u8]) -> Option<(u64, &[u8])>
+    requires { ends_number END ≡ true }
+    ensures { IfSome result (λ r. Plain END text.now r.0 r.1.now) }
+{
+    let (value, rest) = leading(text)?;
+    match rest {
+        [byte, ..] if *byte != END => None,
+        _ => Some((value, rest)),
+    }
+}
+
+// The same of digits with at most one minus before them, as a number.
+pub(crate) fn plain_number<T: Number, const END: u8>(text: &[u8]) -> Option<(T, &[u8])>
+    requires { ends_number END ≡ true }
+    ensures value { IfSome result (λ r. number_in T.Number.kind (trimmed (front (until END) text.now)) ≡ Some r.0) }
+    ensures rest { IfSome result (λ r. r.1.now ≡ past (until END) text.now) }
+{
+    match text.strip_prefix(b"-") {
+        Some(digits) => {
+            let (magnitude, rest) = plain_digits::<END>(digits)?;
+            Some((T::from_parts(true, magnitude)?, rest))
+        }
+        None => {
+            let (magnitude, rest) = plain_digits::<END>(text)?;
+            Some((T::from_parts(false, magnitude)?, rest))
+        }
     }
 }
