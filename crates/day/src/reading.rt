@@ -19,6 +19,7 @@ use losses::row::{Kind, LossRow};
 use sharing::choice::RuleChoice;
 use sites::site::{Adders, Bus, SiteUnit};
 use std::alloc::Global;
+use std::mem;
 use text::fields::{Fault, Fields};
 use text::numbers::{Number, number_in};
 
@@ -73,6 +74,8 @@ struct RecordReader<'t, 'd> {
     at: u32,
     heap: Global,
     scene: Scene<'d>,
+    // the numbers of the list that was read last
+    numbers: Vec<i64>,
 }
 
 impl<'t> RecordReader<'t, '_> {
@@ -123,13 +126,13 @@ impl<'t> RecordReader<'t, '_> {
         Ok(())
     }
 
-    fn list<T: Number>(&mut self) -> Result<Vec<T>, Fault>
+    // A list of numbers, put in the place of the one before.
+    fn list(&mut self) -> Result<(), Fault>
         ensures { Reads 1 self.old self.new result }
     {
         self.step();
-        let mut numbers = Vec::new(self.heap);
-        self.fields.list(self.at, &mut numbers)?;
-        Ok(numbers)
+        self.numbers.clear();
+        self.fields.list(self.at, &mut self.numbers)
     }
 
     // A party: by its code, which is enrolled above, or as # and the number.
@@ -160,11 +163,12 @@ impl<'t> RecordReader<'t, '_> {
     fn points(&mut self) -> Result<(usize, [Point; 10]), Fault>
         ensures { Reads 1 self.old self.new result }
     {
-        let numbers = self.list::<i64>()?;
-        if numbers.len() % 2 != 0 {
+        self.list()?;
+        let count = self.numbers.len();
+        if count % 2 != 0 {
             return Err(self.wrong());
         }
-        Ok((numbers.len() / 2, points_of(numbers.as_slice())))
+        Ok((count / 2, points_of(self.numbers.as_slice())))
     }
 
     // A figure for each slice in force, where these are the slices of what is already there.
@@ -172,11 +176,11 @@ impl<'t> RecordReader<'t, '_> {
     fn figures(&mut self, agree: bool) -> Result<[i32; 15], Fault>
         ensures { Reads 1 self.old self.new result }
     {
-        let numbers = self.list::<i64>()?;
-        if numbers.len() != self.scene.slices || !agree {
+        self.list()?;
+        if self.numbers.len() != self.scene.slices || !agree {
             return Err(self.wrong());
         }
-        Ok(figures_of(numbers.as_slice()))
+        Ok(figures_of(self.numbers.as_slice()))
     }
 
     fn mark(&mut self) -> Result<bool, Fault>
@@ -245,9 +249,9 @@ impl<'t> RecordReader<'t, '_> {
     fn loads(&mut self) -> Result<Vec<u32>, Fault>
         ensures { Reads 1 self.old self.new result }
     {
-        let numbers = self.list::<i64>()?;
+        self.list()?;
         Ok(
-            numbers
+            self.numbers
                 .iter()
                 .map(|number| u32::held(*number))
                 .collect(self.heap)?,
@@ -295,7 +299,9 @@ impl<'t> RecordReader<'t, '_> {
     fn quarter(&mut self) -> Result<Vec<u16>, Fault>
         ensures { Reads 1 self.old self.new result }
     {
-        let numbers = self.list::<u32>()?;
+        self.step();
+        let mut numbers: Vec<u32> = Vec::new(self.heap);
+        self.fields.list(self.at, &mut numbers)?;
         Ok(
             numbers
                 .iter()
@@ -498,12 +504,15 @@ fn comes_first(name: Name) -> bool
 
 // The record of that name in the fields that follow it. A record that comes too late, or with a wrong number of fields, is told as
 // field 0, whatever else is wrong with it.
-// Kept: the fields are counted only where one is wrong or left over, since most records are whole.
+// `numbers` serves for its lists, so that no list needs memory of its own.
+// Kept: the fields are counted only where one is wrong or left over, since most records are whole. The reader takes the numbers and
+// gives them back, since a reader with a `&mut` beside the scene's `&` gets no proof.
 pub fn read<'t>(
     heap: Global,
     name: Name,
     fields: Fields<'t>,
     scene: &Scene<'_>,
+    numbers: &mut Vec<i64>,
 ) -> Result<Record<'t>, Fault>
     ensures count { ReadCount name fields.entry.rest.now result }
     ensures told { ToldWithin name result }
@@ -518,12 +527,14 @@ pub fn read<'t>(
         at: 0,
         heap,
         scene: *scene,
+        numbers: mem::replace(numbers, Vec::new(heap)),
     };
     let read = reader.record(name);
     let whole = match read {
         Ok(_) => reader.fields.is_done(),
         Err(_) => fields.count() == name.field_count(),
     };
+    *numbers = reader.numbers;
     if whole {
         read
     } else {

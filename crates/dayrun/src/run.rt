@@ -31,18 +31,24 @@ fn read_record<'t>(
     word: &[u8],
     fields: Fields<'t>,
     scene: &Scene<'_>,
+    numbers: &mut Vec<i64>,
 ) -> Result<Record<'t>, Fault> {
     let name = Name::try_from(word)?;
-    read(heap, name, fields, scene)
+    read(heap, name, fields, scene, numbers)
 }
 
 impl<'t> ReadLine<'t> {
-    fn of(heap: Global, line: &Line<'t>, scene: &Scene<'_>) -> ReadLine<'t> {
+    fn of(
+        heap: Global,
+        line: &Line<'t>,
+        scene: &Scene<'_>,
+        numbers: &mut Vec<i64>,
+    ) -> ReadLine<'t> {
         let (word, fields) = Fields::of(line.text);
         ReadLine {
             number: line.number,
             word,
-            record: read_record(heap, word, fields, scene),
+            record: read_record(heap, word, fields, scene, numbers),
         }
     }
 }
@@ -116,6 +122,7 @@ fn gather<O: Outlet>(
     tables: &mut Tables,
     teller: &mut Teller<'_, O>,
 ) -> io::Result<Reached> {
+    let mut numbers = Vec::new(heap);
     for line in Lines::numbered(number, block) {
         if line.is_passed_over() {
             teller.show(line.text)?;
@@ -124,6 +131,7 @@ fn gather<O: Outlet>(
                 heap,
                 &line,
                 &tables.scene(&enrolled.parties, true),
+                &mut numbers,
             );
             let (words, outcome) = match record {
                 Ok(Record::Call(_)) => return Ok(Reached::Call(line.number, line.from.len())),
@@ -157,6 +165,7 @@ fn go_on<R: Report, O: Outlet>(
     report: &mut R,
     teller: &mut Teller<'_, O>,
 ) -> io::Result<u64> {
+    let mut numbers = Vec::new(heap);
     for line in Lines::numbered(number, block) {
         if line.is_passed_over() {
             teller.show(line.text)?;
@@ -165,6 +174,7 @@ fn go_on<R: Report, O: Outlet>(
                 heap,
                 &line,
                 &tables.scene(&enrolled.parties, false),
+                &mut numbers,
             );
             let (words, outcome) = match record {
                 Ok(Record::Call(asked)) => (
