@@ -52,11 +52,11 @@ module _ (f : Slice → ℤ) (small : (x : Slice) → Limited x → nat_abs (f x
   before : nat_abs a ≤ 27000000000000000
   before = omega (arith, inv.1, below)
 
-  pub step_fits : SFits w64 (a +ℤ to_z w64 (of_z w64 z))
+  pub step_fits : SFits w64 (to_z w64 (of_z w64 a) +ℤ to_z w64 (of_z w64 z))
   step_fits = omega (arith, ints, before, term)
 
-  clear : to_z w64 (of_z w64 (a +ℤ to_z w64 (of_z w64 z))) ≡ a +ℤ z
+  clear : to_z w64 (of_z w64 (to_z w64 (of_z w64 a) +ℤ to_z w64 (of_z w64 z))) ≡ a +ℤ z
   clear = omega (arith, ints, before, term)
 
-  pub step_sum : (to_z w64 (of_z w64 (a +ℤ to_z w64 (of_z w64 z))) ≡ signed_sum f (take (i + 1) xs)) × (nat_abs (to_z w64 (of_z w64 (a +ℤ to_z w64 (of_z w64 z)))) ≤ limit * (i + 1))
+  pub step_sum : (to_z w64 (of_z w64 (to_z w64 (of_z w64 a) +ℤ to_z w64 (of_z w64 z))) ≡ signed_sum f (take (i + 1) xs)) × (nat_abs (to_z w64 (of_z w64 (to_z w64 (of_z w64 a) +ℤ to_z w64 (of_z w64 z)))) ≤ limit * (i + 1))
   step_sum = (clear ∙ rw (fold_more (λ b x. b +ℤ f x) (pos 0) xs i none lt, ← inv.0, is), rw clear (omega (arith, ints, inv.1, term)))

@@ -4,4 +4,5 @@ pub mod Energy
 pub mod Payments
 pub mod Weights
 pub mod Priced
+pub mod Sums
 pub mod Figures

@@ -2,7 +2,7 @@
 ghost use Rattle.std.specs.Prelude.{◌≡◌, ℕ, ◌≤◌, length, pos, ◌≤ℤ◌, unsigned_abs};
 ghost use Rattle.curves.specs.Curves.{points_of};
 ghost use Rattle.quarters.specs.Quarters.{slices_of};
-ghost use Rattle.emergency.specs.Energy.{mean_price, scheduled as scheduled_on, energy_between, due as due_for};
+ghost use Rattle.emergency.specs.Energy.{mean_price, energy_between, due as due_for};
 ghost use Rattle.emergency.specs.Fields.{Fitting};
 ghost use Rattle.emergency.specs.Payments.{paid, paid_on, Moderate};
 ghost use Rattle.emergency.specs.Priced.{slices_in};
@@ -49,38 +49,26 @@ fn due(spp: i64, discharging: &Leg, charging: &Leg) -> i64
 }
 
 impl PricedSlices {
-    // W above zero, V below.
-    #[tactic(auto, using(crate::proofs::Ranges::mean))]
-    fn mean_price(&self, side: Side) -> i64
-        ensures value { result ≡ mean_price side (slices_in self.now) }
-        ensures small { unsigned_abs result ≤ 1000000 }
-    {
-        if self.any_on(side) {
-            nearest(self.weighed_prices(side), self.weights(side))
-        } else {
-            0
-        }
-    }
-
-    // The energy of the base points on one side.
-    #[tactic(auto, unfolding(crate::specs::Energy::scheduled))]
-    fn scheduled(&self, side: Side) -> i64
-        ensures { result ≡ scheduled_on side (slices_in self.now) }
-    {
-        nearest(self.work(side), 3600)
-    }
-
-    // E above zero, D below: what was scheduled, between two limits around zero.
-    #[tactic(auto, unfolding(crate::specs::Energy::energy_between))]
-    fn energy(&self, side: Side, least: i64, most: i64) -> i64
+    // W and E above zero, V and D below: the energy is what was scheduled, between two limits around zero.
+    #[tactic(auto, using(crate::proofs::Ranges::mean), unfolding(crate::specs::Energy::scheduled, crate::specs::Energy::energy_between))]
+    fn leg(&self, side: Side, least: i64, most: i64) -> Leg
         requires around { (least ≤ℤ pos 0) × (pos 0 ≤ℤ most) }
-        ensures value { result ≡ energy_between side least most (slices_in self.now) }
-        ensures within { (least ≤ℤ result) × (result ≤ℤ most) }
+        ensures price { result.price ≡ mean_price side (slices_in self.now) }
+        ensures small { unsigned_abs result.price ≤ 1000000 }
+        ensures energy { result.energy ≡ energy_between side least most (slices_in self.now) }
+        ensures within { (least ≤ℤ result.energy) × (result.energy ≤ℤ most) }
     {
-        if self.any_on(side) {
-            self.scheduled(side).clamp(least, most)
+        let sums = self.sums(side);
+        if sums.any {
+            Leg {
+                price: nearest(sums.prices, sums.weights),
+                energy: nearest(sums.work, 3600).clamp(least, most),
+            }
         } else {
-            0
+            Leg {
+                price: 0,
+                energy: 0,
+            }
         }
     }
 
@@ -90,14 +78,8 @@ impl PricedSlices {
         ensures { result ≡ paid (slices_in self.now) row.now.spp row.now.generation row.now.charging }
     {
         // no more than was generated, and no more than was charged
-        let discharging = Leg {
-            price: self.mean_price(Side::Above),
-            energy: self.energy(Side::Above, 0, i64::from(row.generation)),
-        };
-        let charging = Leg {
-            price: self.mean_price(Side::Below),
-            energy: self.energy(Side::Below, i64::from(row.charging), 0),
-        };
+        let discharging = self.leg(Side::Above, 0, i64::from(row.generation));
+        let charging = self.leg(Side::Below, i64::from(row.charging), 0);
         let owed = due(i64::from(row.spp), &discharging, &charging);
         Payment {
             discharging,

@@ -1,4 +1,4 @@
-// The priced slices of a quarter hour, and the sums over them for either side of zero.
+// The priced slices of a quarter hour, and the sums over them on either side of zero.
 ghost use Rattle.std.specs.Prelude.{ℕ};
 ghost use Rattle.std.specs.List.{All};
 ghost use Rattle.bounded.specs.Items.{items_of};
@@ -17,16 +17,26 @@ pub(crate) struct PricedSlices {
     ghost each: { All Limited (items_of list) },
 }
 
+// The sums over the slices on one side of zero.
+#[derive(Clone, Copy)]
+pub(crate) struct Sums {
+    // whether some base point lies there
+    pub(crate) any: bool,
+    pub(crate) weights: u64,
+    // the prices, each by its weight
+    pub(crate) prices: i64,
+    // the powers, each as long as it lasts
+    pub(crate) work: i64,
+}
+
 impl PricedSlices {
-    ghost use Rattle.std.specs.Prelude.{◌≡◌, ℕ, length, pos, ◌*ℤ◌, sum_by};
-    ghost use Rattle.numbers.specs.Sums.{signed_sum};
+    ghost use Rattle.std.specs.Prelude.{◌≡◌, ℕ, length};
     ghost use Rattle.curves.specs.Curves.{points_of};
     ghost use Rattle.quarters.specs.Quarters.{slices_of};
-    ghost use Rattle.emergency.specs.Energy.{some, power};
     ghost use Rattle.emergency.specs.Fields.{Fitting};
     ghost use Rattle.emergency.specs.Payments.{sliced};
     ghost use Rattle.emergency.specs.Priced.{slices_in};
-    ghost use Rattle.emergency.specs.Weights.{weight_of};
+    ghost use Rattle.emergency.specs.Sums.{sums_of};
 
     // The slices of the quarter hour, each with its base point and price.
     pub(crate) fn of(quarter: &QuarterHour, curve: &Curve, row: &EmergencyRow) -> PricedSlices
@@ -48,45 +58,22 @@ impl PricedSlices {
         PricedSlices { list }
     }
 
-    // Whether some base point lies on this side.
-    pub(crate) fn any_on(&self, side: Side) -> bool
-        ensures { result ≡ some side (slices_in self.now) }
+    // What the slices come to on one side of zero.
+    pub(crate) fn sums(&self, side: Side) -> Sums
+        ensures { result ≡ sums_of side (slices_in self.now) }
     {
-        self.list.as_slice().iter().any(|slice| slice.is_on(side))
-    }
-
-    // The sum of the weights.
-    pub(crate) fn weights(&self, side: Side) -> u64
-        ensures { result ≡ sum_by (weight_of side) (slices_in self.now) }
-    {
-        let mut total = 0;
+        let mut sums = Sums {
+            any: false,
+            weights: 0,
+            prices: 0,
+            work: 0,
+        };
         for slice in self.list.as_slice() {
-            total += u64::from(slice.weight(side));
+            sums.any |= slice.is_on(side);
+            sums.weights += u64::from(slice.weight(side));
+            sums.prices += slice.weighed_price(side);
+            sums.work += slice.work(side);
         }
-        total
-    }
-
-    // The sum of the prices, each by its weight.
-    // Kept: a loop for each of the two sums: one over a closure would state the closure's limits, and be longer than both.
-    pub(crate) fn weighed_prices(&self, side: Side) -> i64
-        ensures { result ≡ signed_sum (λ x. x.price *ℤ pos (weight_of side x)) (slices_in self.now) }
-    {
-        let mut total = 0;
-        for slice in self.list.as_slice() {
-            total += slice.weighed_price(side);
-        }
-        total
-    }
-
-    // The sum of the powers, each as long as it lasts.
-    // Kept: as the sum before it.
-    pub(crate) fn work(&self, side: Side) -> i64
-        ensures { result ≡ signed_sum (λ x. power side x *ℤ pos x.seconds) (slices_in self.now) }
-    {
-        let mut total = 0;
-        for slice in self.list.as_slice() {
-            total += slice.work(side);
-        }
-        total
+        sums
     }
 }
