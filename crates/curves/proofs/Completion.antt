@@ -2,7 +2,6 @@
 use Rattle.std.proofs.Common.{◌≡◌, ℕ, zero, suc, ◌+◌, ◌-◌, ◌<◌, Bool, true, false, cond, List, [], ◌∷◌, ◌++◌, length, pos, negsuc, ◌-ℤ◌, ◌≤ℤ◌, ◌<ℤ◌, sym, refl, subst, ⊎_elim, append-nil, eq-or-lt_of_le, arith}
 use borrow.Author.Differences.{ints}
 use lib.Signed.{lt_z, ≤ℤ_refl}
-use Rattle.std.specs.Prelude.{Option, None, Some, MatchOption, option_to_list}
 use Rattle.std.specs.Int.{int_min}
 use Rattle.std.proofs.lemmas.Int.{clamps}
 use Rattle.std.proofs.lemmas.List.{length-append, get_or_append_left, get_or_push}
@@ -12,11 +11,6 @@ use Rattle.curves.specs.Shape.{at, point, Rising, Inside, InLimits, Shaped}
 use Rattle.curves.specs.Submission.{listed}
 use Rattle.curves.specs.Completion.{step_up, high_end, completed}
 use Rattle.curves.proofs.Soundness.{Sound}
-
--- a slice of a point or none
-pub sliced : (o : Option Point) (ps : List Point) → MatchOption o (ps ≡ []) (λ p. ps ≡ p ∷ []) → ps ≡ option_to_list o
-sliced None ps e = e
-sliced (Some p) ps e = e
 
 -- one more in front
 pub fronted : (p : Point) (ps : List Point) → InLimits p → p.power <ℤ (at ps 0).power → p.price ≤ℤ (at ps 0).price → Shaped ps → Shaped (p ∷ ps)

@@ -1,8 +1,8 @@
 // Curves from submitted rows: the market's completion for resources without full-range curves.
-ghost use Rattle.std.specs.Prelude.{◌≡◌, ◌-◌, is_ok, option_to_list};
+ghost use Rattle.std.specs.Prelude.{◌≡◌, ◌-◌, ◌<◌, ◌++◌, length, is_ok, option_to_list};
 ghost use Rattle.numbers.specs.Checks.{Answered, Unambiguous};
 ghost use Rattle.bounded.specs.Items.{items_of};
-ghost use Rattle.curves.specs.Shape.{at, InLimits, Shaped};
+ghost use Rattle.curves.specs.Shape.{at, InLimits};
 ghost use Rattle.curves.specs.Submission.{listed, checks, number_of, place_of};
 ghost use Rattle.curves.specs.Completion.{low_end, step_point, step_up, high_end, completed};
 ghost use Rattle.curves.specs.Acceptance.{accepted};
@@ -13,6 +13,16 @@ use crate::curve::checks::SoundRow;
 use crate::limits::{LEAST_PRICE, MOST_POINTS};
 use crate::points::{CurveRefusal, Point, SubmittedCurve};
 use bounded::list::BoundedList;
+
+// Puts a point, if there is one, behind the others.
+fn put(points: &mut BoundedList<Point, MOST_POINTS>, point: Option<Point>)
+    requires { length (items_of points.old) < MOST_POINTS }
+    ensures { items_of points.new ≡ items_of points.old ++ option_to_list point }
+{
+    if let Some(point) = point {
+        points.push(point);
+    }
+}
 
 impl SoundRow<'_> {
     // The first point.
@@ -89,17 +99,16 @@ impl SoundRow<'_> {
         }
     }
 
-    // The completed points.
-    fn completion(&self) -> BoundedList<Point, MOST_POINTS>
-        ensures list { items_of result ≡ completed self.now.row.now }
-        ensures shape { Shaped (items_of result) }
+    // The completed curve.
+    fn completion(&self) -> Curve
+        ensures { points_of result ≡ completed self.now.row.now }
     {
         let mut points = BoundedList::new(Point { power: 0, price: 0 });
-        points.extend_from_slice(self.low_end().as_slice());
-        points.extend_from_slice(self.step_up().as_slice());
+        put(&mut points, self.low_end());
+        put(&mut points, self.step_up());
         points.extend_from_slice(self.row.listed());
-        points.extend_from_slice(self.high_end().as_slice());
-        points
+        put(&mut points, self.high_end());
+        Curve { points }
     }
 }
 
@@ -111,7 +120,6 @@ impl SubmittedCurve {
         ensures test { is_ok result ≡ accepted self.now }
         ensures once { Unambiguous (checks self.now) }
     {
-        let points = SoundRow::of(self)?.completion();
-        Ok(Curve { points })
+        Ok(SoundRow::of(self)?.completion())
     }
 }

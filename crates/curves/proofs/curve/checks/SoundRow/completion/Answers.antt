@@ -1,25 +1,23 @@
-use Rattle.std.proofs.Common.{◌≡◌, length, sym, subst, append_assoc, arith, ◌∙◌}
+use Rattle.std.proofs.Common.{◌≡◌, length, sym, subst, append_assoc, arith}
 use Rattle.bounded.specs.Items.{items_of}
 use Rattle.curves.specs.Shape.{Shaped}
-use Rattle.curves.specs.Completion.{low_end, step_up, high_end, completed}
+use Rattle.curves.specs.Completion.{completed}
 use Rattle.curves.proofs.Soundness.{sound}
-use Rattle.curves.proofs.Completion.{sliced, completed_shaped}
+use Rattle.curves.proofs.Completion.{completed_shaped}
 use Rattle.curves.proofs.curve.checks.SoundRow.completion.Goals as goal
 
-whole : (c : goal.After-extend_from_slice-4) → items_of c.extend_from_slice-4.new.self ≡ completed c.args.self.now.row.now
+whole : (c : goal.After-put-3) → items_of c.put-3.new.points ≡ completed c.args.self.now.row.now
 unfolding completed
-whole c =
-    let low : c.as_slice.result.now ≡ low_end c.args.self.now.row.now = sliced c.low_end.result c.as_slice.result.now c.as_slice.ensures ∙ c.low_end.ensures in
-    let up : c.as_slice-2.result.now ≡ step_up c.args.self.now.row.now = sliced c.step_up.result c.as_slice-2.result.now c.as_slice-2.ensures ∙ c.step_up.ensures in
-    let high : c.as_slice-3.result.now ≡ high_end c.args.self.now.row.now = sliced c.high_end.result c.as_slice-3.result.now c.as_slice-3.ensures ∙ c.high_end.ensures in
-    rw (c.extend_from_slice-4.ensures, c.extend_from_slice-3.ensures, c.extend_from_slice-2.ensures, c.extend_from_slice.ensures, c.new-points.ensures, c.listed.ensures.value, low, up, high) (simp append_assoc)
+whole c = rw (c.put-3.ensures, c.extend_from_slice.ensures, c.put-2.ensures, c.put.ensures, c.new-points.ensures, c.listed.ensures.value, c.low_end.ensures, c.step_up.ensures, c.high_end.ensures) (simp append_assoc)
 
-pub returns-clause-list : goal.returns-clause-list
-returns-clause-list c = whole c
-
-pub returns-clause-shape : goal.returns-clause-shape
-returns-clause-shape c =
+pub invariant_of-result : goal.invariant_of-result
+invariant_of-result c =
     let row = c.args.self.now.row.now in
     let passed = sound row c.args.self.now.passed in
     let count : length c.listed.result.now ≡ row.count = omega (arith, passed.count) in
-    subst Shaped (sym (whole c)) (completed_shaped row passed (rw c.listed.ensures.value at count))
+    let shape = subst Shaped (sym (whole c)) (completed_shaped row passed (rw c.listed.ensures.value at count)) in
+    record { some = shape.some; rising = shape.rising; inside = shape.inside }
+
+pub returns : goal.returns
+unfolding completed
+returns c = rw (c.put-3.ensures, c.extend_from_slice.ensures, c.put-2.ensures, c.put.ensures, c.new-points.ensures, c.listed.ensures.value, c.low_end.ensures, c.step_up.ensures, c.high_end.ensures) (simp append_assoc)
