@@ -1,12 +1,12 @@
 -- What the limits of the slices and fields give: prices within 1,000,000, energies within 500,000, so amounts and bases within theirs.
-use Rattle.std.proofs.Common.{◌≡◌, ℕ, ◌+◌, ◌*◌, ◌<◌, ◌≤◌, true, false, sym, ◌∙◌, List, [], ◌∷◌, ℤ, pos, negsuc, ◌+ℤ◌, ◌-ℤ◌, ◌*ℤ◌, nat_abs, ◌≤ℤ◌, fold, sum_by, subst, mul-le-mul_right, mul-le-mul, arith}
+use Rattle.std.proofs.Common.{◌≡◌, ℕ, ◌+◌, ◌*◌, ◌<◌, ◌≤◌, Bool, true, false, cond, refl, List, [], ◌∷◌, ℤ, pos, negsuc, ◌+ℤ◌, ◌-ℤ◌, ◌*ℤ◌, nat_abs, ◌≤ℤ◌, fold, sum_by, subst, mul-le-mul_right, mul-le-mul, arith}
 use borrow.Author.Differences.{ints}
 use Rattle.std.specs.Int.{int_min, int_max}
 use Rattle.std.specs.List.{AllByRecursion, All}
 use Rattle.std.proofs.lemmas.List.Elements.{recursion_from_All}
 use Rattle.std.proofs.lemmas.Int.{clamps}
 use Rattle.std.proofs.lemmas.List.Sums.{sum_by-cons}
-use Rattle.std.proofs.lemmas.Bool.{cond_both, cond-true, cond-false}
+use Rattle.std.proofs.lemmas.Bool.{cond_both}
 use Rattle.numbers.proofs.Integers.{abs_scaled, abs_times}
 use Rattle.numbers.specs.Sums.{signed_sum}
 use Rattle.rounding.specs.Nearest.{nearest_to}
@@ -14,7 +14,8 @@ use Rattle.rounding.proofs.Laws.{nearest_within}
 use Rattle.emergency.specs.declared.slices.Slice.{Slice}
 use Rattle.emergency.specs.declared.slices.Side.{Side}
 use Rattle.emergency.specs.declared.slices.Side.TheVariants.{Above, Below}
-use Rattle.emergency.specs.Energy.{some, mean_price, scheduled, energy_between, discharged, charged, due, amount, basis}
+use Rattle.emergency.specs.Energy.{some, mean_price, scheduled, discharged, charged, due, amount, basis}
+use Rattle.emergency.specs.Sums.{worked, sums_of, mean_of, energy_of}
 use Rattle.emergency.specs.Weights.{weight_of, Limited}
 use Rattle.emergency.proofs.Weights.{weights_some, quotient_is}
 
@@ -42,14 +43,14 @@ mean_each side xs h = mean_small side xs (recursion_from_All Limited xs h)
 pub weights_each : (side : Side) (xs : List Slice) → All Limited xs → some side xs ≡ true → 0 < sum_by (weight_of side) xs
 weights_each side xs h e = weights_some side xs (recursion_from_All Limited xs h) e
 
-pub mean_is : (side : Side) (xs : List Slice) → All Limited xs → some side xs ≡ true →
-    mean_price side xs ≡ nearest_to (signed_sum (λ x. x.price *ℤ pos (weight_of side x)) xs) (sum_by (weight_of side) xs)
-unfolding mean_price
-mean_is side xs h e = cond-true _ _ (pos 0) e ∙ sym (quotient_is side xs (weights_each side xs h e))
+same_if : (b : Bool) (x y z : ℤ) → (b ≡ true → x ≡ y) → cond b x z ≡ cond b y z
+same_if true x y z e = e refl
+same_if false x y z e = refl
 
-pub mean_none : (side : Side) (xs : List Slice) → some side xs ≡ false → mean_price side xs ≡ pos 0
+-- the prices by the sums
+pub mean_of_is : (side : Side) (xs : List Slice) → All Limited xs → mean_of (sums_of side xs) ≡ mean_price side xs
 unfolding mean_price
-mean_none side xs e = cond-false _ _ (pos 0) e
+mean_of_is side xs h = same_if (some side xs) _ _ (pos 0) (λ e. quotient_is side xs (weights_each side xs h e))
 
 pub discharged_within : (g : ℕ) (xs : List Slice) → (pos 0 ≤ℤ discharged g xs) × (discharged g xs ≤ℤ pos g)
 unfolding discharged
@@ -93,14 +94,17 @@ module _ (spp : ℤ) (g : ℕ) (c : ℤ) (xs : List Slice) (fspp : nat_abs spp �
   unfolding basis
   basis_small = omega (arith, ints, discharged_within g xs, charged_within c xs fc0)
 
--- the energies by their limits
-pub energy_above : (g : ℕ) (xs : List Slice) → energy_between Above (pos 0) (pos g) xs ≡ discharged g xs
-unfolding energy_between discharged
-energy_above g xs = let same : int_min (scheduled Above xs) (pos g) ≡ int_min (pos g) (scheduled Above xs) = omega (arith, ints, clamps) in rw same
+-- the energies by the sums
+pub energy_above : (g : ℕ) (xs : List Slice) → energy_of (pos 0) (pos g) (sums_of Above xs) ≡ discharged g xs
+unfolding scheduled discharged
+energy_above g xs = same_if (some Above xs) _ _ (pos 0) (λ _. clamped (nearest_to (signed_sum (worked Above) xs) 3600))
+  where
+    clamped : (z : ℤ) → int_max (pos 0) (int_min z (pos g)) ≡ int_max (pos 0) (int_min (pos g) z)
+    clamped z = omega (arith, ints, clamps)
 
-pub energy_below : (c : ℤ) (xs : List Slice) → c ≤ℤ pos 0 → energy_between Below c (pos 0) xs ≡ charged c xs
-unfolding energy_between charged
-energy_below c xs h = let same : int_max c (int_min (scheduled Below xs) (pos 0)) ≡ int_min (pos 0) (int_max c (scheduled Below xs)) = omega (arith, ints, clamps) in rw same
-
--- what the mean price rests on
-pub ruleset mean = (weights_each, mean_none)
+pub energy_below : (c : ℤ) (xs : List Slice) → c ≤ℤ pos 0 → energy_of c (pos 0) (sums_of Below xs) ≡ charged c xs
+unfolding scheduled charged
+energy_below c xs h = same_if (some Below xs) _ _ (pos 0) (λ _. clamped (nearest_to (signed_sum (worked Below) xs) 3600))
+  where
+    clamped : (z : ℤ) → int_max c (int_min z (pos 0)) ≡ int_min (pos 0) (int_max c z)
+    clamped z = omega (arith, ints, clamps)

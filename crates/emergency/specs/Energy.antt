@@ -50,10 +50,6 @@ discharged generation xs = cond (some Above xs) (int_max (pos 0) (int_min (pos g
 unfoldable pub charged : ℤ → List Slice → ℤ
 charged charging xs = cond (some Below xs) (int_min (pos 0) (int_max charging (scheduled Below xs))) (pos 0)
 
--- what was scheduled on one side, between two limits around zero; 0 if no base point lies there
-unfoldable pub energy_between : Side → ℤ → ℤ → List Slice → ℤ
-energy_between side least most xs = cond (some side xs) (int_max least (int_min (scheduled side xs) most)) (pos 0)
-
 -- SPP × (E + D) − W × E − V × D
 abbrev pub due : ℤ → ℤ → ℤ → ℤ → ℤ → ℤ
 due spp w e v d = ((spp *ℤ (e +ℤ d)) -ℤ (w *ℤ e)) -ℤ (v *ℤ d)

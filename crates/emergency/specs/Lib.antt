@@ -3,6 +3,5 @@ pub mod Fields
 pub mod Energy
 pub mod Payments
 pub mod Weights
-pub mod Priced
 pub mod Sums
 pub mod Figures

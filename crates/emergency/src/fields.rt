@@ -48,7 +48,7 @@ impl EmergencyRow {
     }
 
     // The row with its quarter hour, if each field is in its limits; else the first field that is not.
-    #[tactic(auto, using(crate::proofs::Limits::settled))]
+    #[tactic(auto, using(crate::proofs::Limits::fitting))]
     pub fn fitting<'a>(&'a self, quarter: &'a QuarterHour) -> Result<FittingRow<'a>, Field>
         ensures test { MatchResult result (λ _. bad_field (length (slices_of quarter.now)) self.now ≡ None) (λ field. bad_field (length (slices_of quarter.now)) self.now ≡ Some field) }
         ensures same { IfOk result (λ fitting. (fitting.row.now ≡ self.now) × (fitting.quarter.now ≡ quarter.now)) }

@@ -5,6 +5,6 @@ mod fields;
 pub mod figures;
 pub mod fitting;
 pub mod payment;
-mod priced;
 pub mod row;
 pub mod slices;
+mod sums;
