@@ -5,8 +5,9 @@ use Rattle.curves.specs.Completion.{completed}
 use Rattle.curves.proofs.Soundness.{sound}
 use Rattle.curves.proofs.Completion.{completed_shaped}
 use Rattle.curves.proofs.curve.checks.SoundRow.completion.Goals as goal
+use Rattle.curves.proofs.curve.checks.SoundRow.completion.Goals.{After-put-3}
 
-whole : (c : goal.After-put-3) → items_of c.put-3.new.points ≡ completed c.args.self.now.row.now
+whole : (c : After-put-3) → items_of c.put-3.new.points ≡ completed c.args.self.now.row.now
 unfolding completed
 whole c = rw (c.put-3.ensures, c.extend_from_slice.ensures, c.put-2.ensures, c.put.ensures, c.new-points.ensures, c.listed.ensures.value, c.low_end.ensures, c.step_up.ensures, c.high_end.ensures) (simp append_assoc)
 
@@ -19,5 +20,4 @@ invariant_of-result c =
     record { some = shape.some; rising = shape.rising; inside = shape.inside }
 
 pub returns : goal.returns
-unfolding completed
-returns c = rw (c.put-3.ensures, c.extend_from_slice.ensures, c.put-2.ensures, c.put.ensures, c.new-points.ensures, c.listed.ensures.value, c.low_end.ensures, c.step_up.ensures, c.high_end.ensures) (simp append_assoc)
+returns c = whole (goal.at.returns c).After-put-3
