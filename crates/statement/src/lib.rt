@@ -6,3 +6,5 @@ pub mod notes;
 pub mod slots;
 pub mod statement;
 pub mod steps;
+#[cfg(test)]
+mod tests;
