@@ -5,7 +5,6 @@ ghost use Rattle.std.specs.Prelude.{◌≡◌, ◌<◌};
 ghost use Rattle.rounding.specs.Nearest.{nearest_magnitude, nearest_to, Nearest, Pinned, Lawful};
 
 use numbers::with_sign;
-use std::cmp::Ordering;
 
 mod halves;
 
@@ -17,11 +16,11 @@ fn magnitude(n: u64, d: u64) -> u64
 {
     let whole = n / d;
     let over = n % d;
-    match over.cmp(&(d - over)) {
-        Ordering::Less => whole,
-        Ordering::Greater => whole + 1,
-        Ordering::Equal => halves::from_half(whole),
+    let short = d - over;
+    if over == short {
+        return halves::from_half(whole);
     }
+    whole + u64::from(over > short)
 }
 
 // The nearest whole number to n / d.
