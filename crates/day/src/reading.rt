@@ -28,11 +28,11 @@ use text::numbers::{Number, number_in};
 pub struct Scene<'d> {
     // the parties enrolled so far
     pub parties: &'d Roll,
-    // how many slices are in force
-    pub slices: usize,
-    // whether these slices are those of the emergency rows, and of the site's parts, that are already there
-    pub rows_agree: bool,
-    pub parts_agree: bool,
+    // the slices in force
+    pub slices: &'d [u16],
+    // the slices of the emergency rows, and of the site's parts, that are already there
+    pub of_rows: Option<&'d [u16]>,
+    pub of_parts: Option<&'d [u16]>,
     // whether the first call is still to come
     pub gathering: bool,
 }
@@ -173,11 +173,12 @@ impl<'t> RecordReader<'t, '_> {
 
     // A figure for each slice in force, where these are the slices of what is already there.
     // Kept: a row of fixed size, as the row that they are read for.
-    fn figures(&mut self, agree: bool) -> Result<[i32; 15], Fault>
+    fn figures(&mut self, others: Option<&[u16]>) -> Result<[i32; 15], Fault>
         ensures { Reads 1 self.old self.new result }
     {
         self.list()?;
-        if self.numbers.len() != self.scene.slices || !agree {
+        let agree = others.is_none_or(|others| others == self.scene.slices);
+        if self.numbers.len() != self.scene.slices.len() || !agree {
             return Err(self.wrong());
         }
         Ok(figures_of(self.numbers.as_slice()))
@@ -319,7 +320,7 @@ impl<'t> RecordReader<'t, '_> {
             spp: self.held()?,
             generation: self.held()?,
             charging: self.held()?,
-            bases: self.figures(self.scene.rows_agree)?,
+            bases: self.figures(self.scene.of_rows)?,
             hour: self.held()?,
             cap: self.held()?,
         })
@@ -431,7 +432,7 @@ impl<'t> RecordReader<'t, '_> {
     {
         Ok(Bus {
             energy: self.held()?,
-            prices: self.figures(self.scene.parts_agree)?,
+            prices: self.figures(self.scene.of_parts)?,
         })
     }
 
@@ -439,8 +440,8 @@ impl<'t> RecordReader<'t, '_> {
         ensures { Reads 2 self.old self.new result }
     {
         Ok(Adders {
-            first: self.figures(self.scene.parts_agree)?,
-            second: self.figures(true)?,
+            first: self.figures(self.scene.of_parts)?,
+            second: self.figures(None)?,
         })
     }
 

@@ -18,14 +18,7 @@ use std::io;
 use std::io::Read;
 use text::fields::{Fault, Fields};
 
-// A record, with the word that names it as it is written, or why it could not be read.
-#[derive(Drop)]
-struct ReadLine<'t> {
-    number: u64,
-    word: &'t [u8],
-    record: Result<Record<'t>, Fault>,
-}
-
+// The record of that name in the fields, or why it could not be read.
 fn read_record<'t>(
     heap: Global,
     word: &[u8],
@@ -35,22 +28,6 @@ fn read_record<'t>(
 ) -> Result<Record<'t>, Fault> {
     let name = Name::try_from(word)?;
     read(heap, name, fields, scene, numbers)
-}
-
-impl<'t> ReadLine<'t> {
-    fn of(
-        heap: Global,
-        line: &Line<'t>,
-        scene: &Scene<'_>,
-        numbers: &mut Vec<i64>,
-    ) -> ReadLine<'t> {
-        let (word, fields) = Fields::of(line.text);
-        ReadLine {
-            number: line.number,
-            word,
-            record: read_record(heap, word, fields, scene, numbers),
-        }
-    }
 }
 
 // The number of a party as the book takes it.
@@ -127,13 +104,9 @@ fn gather<O: Outlet>(
         if line.is_passed_over() {
             teller.show(line.text)?;
         } else {
-            let ReadLine { word, record, .. } = ReadLine::of(
-                heap,
-                &line,
-                &tables.scene(&enrolled.parties, true),
-                &mut numbers,
-            );
-            let (words, outcome) = match record {
+            let (word, fields) = Fields::of(line.text);
+            let scene = tables.scene(&enrolled.parties, true);
+            let (words, outcome) = match read_record(heap, word, fields, &scene, &mut numbers) {
                 Ok(Record::Call(_)) => return Ok(Reached::Call(line.number, line.from.len())),
                 Ok(Record::Enrolment(enrolment)) => (
                     Words::None,
@@ -170,13 +143,9 @@ fn go_on<R: Report, O: Outlet>(
         if line.is_passed_over() {
             teller.show(line.text)?;
         } else {
-            let ReadLine { word, record, .. } = ReadLine::of(
-                heap,
-                &line,
-                &tables.scene(&enrolled.parties, false),
-                &mut numbers,
-            );
-            let (words, outcome) = match record {
+            let (word, fields) = Fields::of(line.text);
+            let scene = tables.scene(&enrolled.parties, false);
+            let (words, outcome) = match read_record(heap, word, fields, &scene, &mut numbers) {
                 Ok(Record::Call(asked)) => (
                     Words::of_call(&asked),
                     call(heap, &asked, ledger, tables, report),

@@ -1,5 +1,5 @@
 // The tables of rows, the parts of the next site, and the layers.
-ghost use Rattle.std.specs.Prelude.{◌≡◌, Decides, OnOk, OnErr};
+ghost use Rattle.std.specs.Prelude.{◌≡◌, OnOk, OnErr};
 ghost use Rattle.day.specs.declared.records.Change.TheVariants as changes;
 ghost use Rattle.dayrun.specs.Changes.{Makes, Leaves, Same, SameQuarter, SameEmergency, SameLosses, SameListed, SameLayers, Dropped};
 ghost use Rattle.quarters.specs.Quarters.{slices_of};
@@ -131,13 +131,6 @@ pub struct Tables {
     pub layers: Layers,
 }
 
-// Whether two quarter hours have the same slices.
-fn agree(one: &QuarterHour, other: &QuarterHour) -> bool
-    ensures { Decides result (slices_of one.now ≡ slices_of other.now) }
-{
-    one.slices() == other.slices()
-}
-
 impl Tables {
     pub fn new(heap: Global) -> Tables {
         Tables {
@@ -152,14 +145,18 @@ impl Tables {
     }
 
     // What the next record is read under.
-    pub fn scene<'d>(&self, parties: &'d Roll, gathering: bool) -> Scene<'d> {
+    pub fn scene<'d>(&'d self, parties: &'d Roll, gathering: bool) -> Scene<'d> {
         Scene {
             parties,
-            slices: self.quarter.slices().len(),
-            rows_agree: self.emergency.is_empty() || agree(&self.emergency_quarter, &self.quarter),
-            parts_agree: match &self.parts.quarter {
-                Some(quarter) => agree(quarter, &self.quarter),
-                None => true,
+            slices: self.quarter.slices(),
+            of_rows: if self.emergency.is_empty() {
+                None
+            } else {
+                Some(self.emergency_quarter.slices())
+            },
+            of_parts: match &self.parts.quarter {
+                Some(quarter) => Some(quarter.slices()),
+                None => None,
             },
             gathering,
         }
