@@ -1,7 +1,8 @@
 -- Laws of a layer's table: where a resource is, and what a write to its place does.
-use Rattle.std.proofs.Common.{◌≡◌, ℕ, zero, suc, ◌+◌, ◌-◌, ◌<◌, ◌≤◌, Bool, true, false, cond, eqb, ltb, List, [], ◌∷◌, length, get_or, set, replicate, ℤ, pos, is_some, Some, None, MatchOption, count_by, find, position, Option, sym, refl, ap, ◌∙◌, subst, ◌⊎◌, inl, inr, ⊎_elim, arith, length-set, get_or-set_same, get_or-set_other}
+use Rattle.std.proofs.Common.{◌≡◌, ℕ, zero, suc, ◌+◌, ◌-◌, ◌<◌, ◌≤◌, Bool, true, false, cond, eqb, ltb, List, [], ◌∷◌, length, get_or, set, replicate, ℤ, pos, is_some, Some, None, MatchOption, count_by, find, position, take, Option, sym, refl, ap, ◌∙◌, subst, ◌⊎◌, inl, inr, ⊎_elim, arith, length-set, get_or-set_same, get_or-set_other}
 use mathlib.Core.Path.{fun_ext}
-use Rattle.std.specs.List.{position_or_len}
+use Rattle.std.specs.List.{position_or_len, position_from}
+use Rattle.std.proofs.lemmas.Iterator.Adapters.{position_from-zero}
 use Rattle.std.specs.Option.{option_map, option_or}
 use Rattle.std.proofs.lemmas.List.Sums.{sum_by-set, sum_by-cons, count_by-le-length, get_or-le-sum_by}
 use Rattle.std.proofs.lemmas.List.Folds.{find_past}
@@ -12,7 +13,7 @@ use Rattle.std.proofs.lemmas.List.{get_or_default, get_or-replicate, length-repl
 use Rattle.charges.specs.declared.figure.Figure.{Figure}
 use Rattle.charges.specs.Refusals.{InRange}
 use Rattle.charges.specs.Settings.{changed}
-use Rattle.charges.specs.Table.{has_resource, is_free, figure_at, held_in, held_count, Once, Known, place_for}
+use Rattle.charges.specs.Table.{has_resource, is_free, figure_at, held_in, held_count, Once, Known, FreeFrom, place_for}
 
 abbrev tick : Bool → ℕ
 tick b = cond b 1 0
@@ -260,3 +261,31 @@ size_less false after before e = omega arith
 -- nothing changes where r has nothing
 pub same_map : (rows : List (Option Figure)) (r : ℕ) → held_in rows r ≡ None → held_in rows ≡ changed (held_in rows) r None
 same_map rows r none = fun_ext (λ k. ⊎_elim (λ same. rw (eq-eqb k r same, same) none) (λ ne. rw (ne_eqb k r ne)) (cases_eq k r))
+
+-- a search ends where every place is free from there on
+all_free : (rows : List (Option Figure)) (r i : ℕ) → FreeFrom 0 rows → position_from (has_resource r) i rows ≡ None
+all_free [] r i free = refl
+all_free (x ∷ rows) r i free = rw (free 0 (omega arith)) (all_free rows r (i + 1) (λ k h. free (suc k) (omega arith)))
+
+from_before : (rows : List (Option Figure)) (n r i : ℕ) → FreeFrom n rows → position_from (has_resource r) i (take n rows) ≡ position_from (has_resource r) i rows
+from_before rows zero r i free = sym (all_free rows r i free)
+from_before [] (suc n) r i free = refl
+from_before (x ∷ rows) (suc n) r i free = rw (from_before rows n r (i + 1) (λ k h. free (suc k) (omega arith)))
+
+pub position_before : (rows : List (Option Figure)) (n r : ℕ) → FreeFrom n rows → position (has_resource r) (take n rows) ≡ position (has_resource r) rows
+position_before rows n r free = position_from-zero (has_resource r) (take n rows) ∙ from_before rows n r 0 free ∙ sym (position_from-zero (has_resource r) rows)
+
+pub none_free : (n : ℕ) → FreeFrom 0 (replicate n None)
+none_free zero i h = refl
+none_free (suc n) zero h = refl
+none_free (suc n) (suc i) h = none_free n i (omega arith)
+
+-- what a write leaves free
+pub free_written : (rows : List (Option Figure)) (i n m : ℕ) (row : Option Figure) → FreeFrom n rows → n ≤ m → i < m → FreeFrom m (set rows i row)
+free_written rows i n m row free more past k h = get_or-set_other rows i k row None (λ same. omega arith) ∙ free k (omega arith)
+
+pub free_cleared : (rows : List (Option Figure)) (i n m : ℕ) → FreeFrom n rows → i < length rows → (n ≤ m) ⊎ ((n ≡ i + 1) × (m ≡ i)) → FreeFrom m (set rows i None)
+free_cleared rows i n m free within end k h = ⊎_elim
+    (λ same. rw same (get_or-set_same rows i None None within))
+    (λ ne. get_or-set_other rows i k None None ne ∙ free k (⊎_elim (λ more. omega arith) (λ last. omega (arith, ne)) end))
+    (cases_eq k i)

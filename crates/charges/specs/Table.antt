@@ -1,5 +1,5 @@
 -- What the places of a layer's table hold.
-use Rattle.std.specs.Prelude.{ℕ, ◌≤◌, Bool, false, not, List, Contains, ℤ, pos, is_some, Some, None, count_by, find, position, Option, ◌==◌}
+use Rattle.std.specs.Prelude.{◌≡◌, ℕ, ◌≤◌, get_or, Bool, false, not, List, Contains, ℤ, pos, is_some, Some, None, count_by, find, position, Option, ◌==◌}
 use Rattle.std.specs.Option.{option_map, option_or, option_and_then}
 use Rattle.charges.specs.declared.figure.Figure.{Figure}
 use Rattle.charges.specs.Refusals.{InRange}
@@ -33,6 +33,10 @@ Once rows = (r : ℕ) → count_by (has_resource r) rows ≤ 1
 -- what is held is a resource's number, with a figure in range
 abbrev pub Known : List (Option Figure) → Type 0
 Known rows = (held : Figure) → Contains rows (Some held) → InRange held.resource held.figure
+
+-- every place from n on is free
+abbrev pub FreeFrom : ℕ → List (Option Figure) → Type 0
+FreeFrom n rows = (i : ℕ) → n ≤ i → get_or rows i None ≡ None
 
 -- a place holds nothing
 abbrev pub is_free : Option Figure → Bool

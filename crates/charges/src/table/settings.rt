@@ -16,6 +16,14 @@ fn is_in_range(resource: u16, figure: i64) -> bool
     (1..=LAST_RESOURCE).contains(&resource) && figure.unsigned_abs() <= MOST_FIGURE
 }
 
+// The one of these places that holds the resource, if one does.
+fn place_among(rows: &[Option<Figure>], resource: u16) -> Option<usize>
+    ensures { result ≡ position (has_resource resource) rows.now }
+{
+    rows.iter()
+        .position(|row| row.is_some_and(|held| held.resource == resource))
+}
+
 impl Table {
     // A table that holds nothing.
     pub(crate) fn new() -> Self
@@ -24,6 +32,7 @@ impl Table {
     {
         Table {
             rows: [None; PLACES],
+            end: 0,
         }
     }
 
@@ -31,9 +40,7 @@ impl Table {
     fn place(&self, resource: u16) -> Option<usize>
         ensures { result ≡ position (has_resource resource) self.now.rows }
     {
-        self.rows
-            .iter()
-            .position(|row| row.is_some_and(|held| held.resource == resource))
+        place_among(&self.rows[..self.end], resource)
     }
 
     // The first free place, if there is one.
@@ -83,6 +90,7 @@ impl Table {
         }
         let place = self.place_for(resource).ok_or(SettingRefusal::Full)?;
         self.rows[place] = Some(Figure { resource, figure });
+        self.end = self.end.max(place + 1);
         Ok(())
     }
 
@@ -92,6 +100,9 @@ impl Table {
     {
         if let Some(place) = self.place(resource) {
             self.rows[place] = None;
+            if place + 1 == self.end {
+                self.end = place;
+            }
         }
     }
 }

@@ -1,11 +1,11 @@
-use Rattle.std.proofs.Common.{◌≡◌, ℕ, true, ℤ, Some, None, Err, Decides, sym, refl, ap, ◌∙◌, subst, inl, inr, w64, SFits, to_z, of_z}
+use Rattle.std.proofs.Common.{◌≡◌, ℕ, true, ℤ, Some, None, Err, Decides, sym, refl, ap, ◌∙◌, subst, inl, inr, w64, SFits, to_z, of_z, arith}
 use Rattle.std.proofs.lemmas.Int.{to_z-of_z}
 use Rattle.std.proofs.lemmas.Result.{err_from_is_err_and}
 use Rattle.charges.specs.Refusals.{InRange}
 use Rattle.charges.specs.Table.{place_for}
 use Rattle.charges.specs.declared.setting.SettingRefusal.TheVariants.{Full}
 use Rattle.charges.specs.Settings.{changed, held_by, WasSet}
-use Rattle.charges.proofs.Places.{set_place, set_full, written, known_written, size_more}
+use Rattle.charges.proofs.Places.{set_place, set_full, written, known_written, free_written, size_more}
 use Rattle.charges.proofs.table.Table.set.Goals as goal
 
 -- what the test told, clear of the figure's bits
@@ -44,4 +44,6 @@ invariant_of-self c =
       many = w.many ∙ t.many;
       once = w.once;
       known = known_written t.rows c.args.resource c.in_ok-place.place (Some z) place.within (c.if-not-is_in_range.ensures.0 refl) t.known;
+      bound = omega (arith, t.bound, t.many, place.within, c.max-self.ensures);
+      rest = free_written t.rows c.in_ok-place.place t.end c.max-self.result _ t.rest (omega (arith, c.max-self.ensures)) (omega (arith, c.max-self.ensures));
     }
