@@ -11,17 +11,21 @@ pub trait Report {
     // How the records are answered.
     fn manner(&self) -> Manner;
 
-    // A settlement was accepted; it stands in its slot in place of any before.
+    // A settlement was accepted; it stands in its slot in place of any before. A report that needs no notes takes none.
     fn settled(
         &mut self,
-        settlement: &Settlement,
-        posted: Posted,
-        ledger: &Ledger<'_>,
-        tables: &Tables,
-    ) -> Result<(), AllocError>;
+        _settlement: &Settlement,
+        _posted: Posted,
+        _ledger: &Ledger<'_>,
+        _tables: &Tables,
+    ) -> Result<(), AllocError> {
+        Ok(())
+    }
 
     // A slot was voided.
-    fn voided(&mut self, slot: SlotName) -> Result<(), AllocError>;
+    fn voided(&mut self, _slot: SlotName) -> Result<(), AllocError> {
+        Ok(())
+    }
 
     // Tells what is to be told once every record is done.
     fn close<O: Outlet>(
@@ -63,20 +67,6 @@ fn tell_balances<O: Outlet>(
 impl Report for Run {
     fn manner(&self) -> Manner {
         self.manner
-    }
-
-    fn settled(
-        &mut self,
-        _settlement: &Settlement,
-        _posted: Posted,
-        _ledger: &Ledger<'_>,
-        _tables: &Tables,
-    ) -> Result<(), AllocError> {
-        Ok(())
-    }
-
-    fn voided(&mut self, _slot: SlotName) -> Result<(), AllocError> {
-        Ok(())
     }
 
     fn close<O: Outlet>(

@@ -218,9 +218,6 @@ impl<'o, O: Outlet> Teller<'o, O> {
         words: Words<'_>,
         outcome: Result<Answer, NotDone>,
     ) -> Result<(), AllocError> {
-        if let Ok(Answer::Silent) = outcome {
-            return Ok(());
-        }
         self.text.number(line)?;
         self.text.put(b": ")?;
         self.text.put(name)?;
@@ -245,6 +242,21 @@ impl<'o, O: Outlet> Teller<'o, O> {
 
     // Counts how a record ended, and answers it. Want of memory ends the run.
     pub fn answer(
+        &mut self,
+        line: u64,
+        name: &[u8],
+        words: Words<'_>,
+        outcome: Result<Answer, NotDone>,
+    ) -> Result<(), AllocError> {
+        if let Ok(Answer::Silent) = outcome {
+            self.tally.done = self.tally.done.saturating_add(1);
+            return Ok(());
+        }
+        self.answer_in_words(line, name, words, outcome)
+    }
+
+    // The same of a record of which something is told.
+    fn answer_in_words(
         &mut self,
         line: u64,
         name: &[u8],
@@ -286,11 +298,21 @@ impl<'o, O: Outlet> Teller<'o, O> {
         }
     }
 
+    // Whether there are enough answers to hand on, or the outlet is to hear of the progress.
+    fn is_due(&self, line: u64) -> bool {
+        self.text.text.len() >= BLOCK || line % STRIDE == 0
+    }
+
     // Hands the answers on where there are enough of them, and lets the outlet know of the progress.
     pub fn pass_on(&mut self, line: u64) -> io::Result<()> {
-        if self.text.text.len() >= BLOCK {
-            self.flush()?;
+        if self.is_due(line) {
+            self.flush_at(line)?;
         }
+        Ok(())
+    }
+
+    fn flush_at(&mut self, line: u64) -> io::Result<()> {
+        self.flush()?;
         if line % STRIDE == 0 {
             self.outlet.reached(line)?;
         }

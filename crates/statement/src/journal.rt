@@ -1,10 +1,9 @@
 // The standing settlements as a journal that plain-text accounting programs read: a transaction for each, in dollars.
 use crate::slots::{slot_at, slot_count, standing, type_name};
-use day::records::{Settlement, SlotName};
+use day::records::SlotName;
 use dayrun::enrolled::Enrolled;
-use dayrun::ledger::{Ledger, Posted};
+use dayrun::ledger::Ledger;
 use dayrun::report::Report;
-use dayrun::tables::Tables;
 use dayrun::teller::{Manner, Outlet, Teller};
 use std::alloc::AllocError;
 use std::fmt;
@@ -120,20 +119,6 @@ impl Journal<'_> {
 impl Report for Journal<'_> {
     fn manner(&self) -> Manner {
         Manner::SILENT
-    }
-
-    fn settled(
-        &mut self,
-        _settlement: &Settlement,
-        _posted: Posted,
-        _ledger: &Ledger<'_>,
-        _tables: &Tables,
-    ) -> Result<(), AllocError> {
-        Ok(())
-    }
-
-    fn voided(&mut self, _slot: SlotName) -> Result<(), AllocError> {
-        Ok(())
     }
 
     fn close<O: Outlet>(

@@ -109,9 +109,7 @@ fn told<R: Report>(heap: Global, report: &mut R) -> io::Result<Vec<u8>> {
 #[test]
 fn each_party_is_told_every_step(rt: HostRuntime) -> Result<(), Fail> {
     let of_all = told(rt.alloc(), &mut Statement::new(rt.alloc(), None))?;
-    let (of_alpha, of_beta) = of_all.as_slice().split_at(OF_ALPHA.len());
-    assert!(rt; of_alpha == OF_ALPHA);
-    assert!(rt; of_beta == OF_BETA);
+    assert!(rt; of_all.as_slice().strip_prefix(OF_ALPHA) == Some(OF_BETA));
     Ok(())
 }
 

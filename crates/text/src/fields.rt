@@ -1,5 +1,5 @@
 // The fields of a line, read from the left.
-ghost use Rattle.std.specs.Prelude.{◌≡◌, count_by, length, is_some, Some, None, IfSome, MatchOption, ◌==◌};
+ghost use Rattle.std.specs.Prelude.{◌≡◌, true, [], count_by, length, is_some, Some, None, IfSome, MatchOption, ◌==◌};
 ghost use Rattle.text.specs.declared.fields.Fault.TheVariants.{Memory};
 ghost use Rattle.text.specs.Text.{front, past, until, trimmed, and_then};
 ghost use Rattle.text.specs.Numbers.{number_in, number_or_zero_in};
@@ -114,11 +114,29 @@ impl<'t> Fields<'t> {
         Some(number)
     }
 
+    // Passes over the next field where nothing at all stands in it, and another field follows.
+    #[tactic(auto, using(crate::proofs::Cursor::passes_on))]
+    fn skip_empty(&mut self) -> bool
+        ensures empty { result ≡ true → next_text self.old.rest.now ≡ Some [] }
+        ensures passes { Passes result self.old.rest.now self.new.rest.now }
+    {
+        match self.rest {
+            [b',', rest @ ..] if matches!(rest, [b',', ..]) => {
+                self.rest = rest;
+                true
+            }
+            _ => false,
+        }
+    }
+
     // The next field as a number, 0 where the field is empty.
     pub fn number_or_zero<T: Number>(&mut self) -> Option<T>
         ensures value { result ≡ and_then (next_text self.old.rest.now) (number_or_zero_in T.Number.kind) }
         ensures passes { Passes (is_some result) self.old.rest.now self.new.rest.now }
     {
+        if self.skip_empty() {
+            return T::from_parts(false, 0);
+        }
         if let Some(number) = self.plain() {
             return Some(number);
         }
