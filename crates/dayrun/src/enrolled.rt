@@ -1,5 +1,5 @@
 // What is gathered before the first call, and what the book is opened with.
-ghost use Rattle.std.specs.Prelude.{◌≤◌, OnOk, OnErr};
+ghost use Rattle.std.specs.Prelude.{◌≡◌, ◌*◌, length, min, OnOk, OnErr};
 ghost use Rattle.dayrun.specs.Enrolments.{Same, Enrols};
 
 use crate::notdone::Refused;
@@ -41,18 +41,22 @@ impl Enrolled {
     }
 
     // The number of intervals as the book takes it.
-    pub fn intervals(&self) -> usize {
+    pub fn intervals(&self) -> usize
+        ensures { result ≡ self.now.intervals }
+    {
         usize::try_from(self.intervals).unwrap_or(usize::MAX)
     }
 
     // How many slots the book is lent, and how many entries: as many as it needs, and no more than the largest book.
     pub fn slots(&self) -> usize
-        ensures { result ≤ 300 }
+        ensures { result ≡ 3 * min self.now.intervals 100 }
     {
         3 * self.intervals().min(100)
     }
 
-    pub fn entries(&self) -> usize {
+    pub fn entries(&self) -> usize
+        ensures { result ≡ 3 * min self.now.intervals 100 * min (length self.now.parties) 64 }
+    {
         self.slots() * self.parties.count().min(64)
     }
 

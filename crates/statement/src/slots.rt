@@ -1,11 +1,16 @@
 // The slots of a book, and how one is told.
+ghost use Rattle.std.specs.Prelude.{◌≡◌, ◌+◌, ◌*◌, ◌/◌, ◌%◌, min};
+
 use assess::slots::ChargeType;
 use book::rows::Told;
 use day::records::SlotName;
 use dayrun::ledger::Ledger;
 
 // The slots by interval, and in an interval by type: the slot at a place, from 0.
-pub fn slot_at(place: u32) -> SlotName {
+pub fn slot_at(place: u32) -> SlotName
+    ensures charge_type { result.charge_type ≡ place % 3 + 1 }
+    ensures interval { result.interval ≡ place / 3 + 1 }
+{
     SlotName {
         charge_type: place % 3 + 1,
         interval: (place / 3).saturating_add(1),
@@ -13,7 +18,9 @@ pub fn slot_at(place: u32) -> SlotName {
 }
 
 // How many slots a day of so many intervals has.
-pub fn slot_count(intervals: u32) -> u32 {
+pub fn slot_count(intervals: u32) -> u32
+    ensures { result ≡ 3 * min intervals 100 }
+{
     intervals.min(100) * 3
 }
 
