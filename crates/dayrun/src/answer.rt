@@ -18,7 +18,7 @@ pub enum Answer {
     Energy(u64),
 }
 
-// The values of a balance of 128 bits are told digit by digit where they fit 64 bits, as they do but in a vast book.
+// Puts a number of 128 bits. Nearly every one fits 64, and such a number is put faster.
 fn put_wide(text: &mut Answers, z: i128) -> Result<(), AllocError> {
     match i64::try_from(z) {
         Ok(z) => text.signed(z),

@@ -8,6 +8,7 @@ use book::ledger::Book;
 use book::rows::{Entry, Slot, Told};
 use charges::energy::energy;
 use charges::interface::LineSource;
+use charges::limits::MOST_LINES;
 use charges::listed::{Listed, ListedRow};
 use charges::rowsource::RowSource;
 use day::held::Held;
@@ -147,9 +148,11 @@ impl Ledger<'_> {
         Ok(self.posted(settlement.slot, lines)?)
     }
 
-    // Works the emergency rows out.
+    // Works the emergency rows out: of too many, one more than a call takes, since it is refused for their number.
     fn work_out(&mut self, heap: Global, tables: &Tables) -> Result<(), AllocError> {
-        self.emergency.renew(heap, &tables.emergency_quarter, tables.emergency.as_slice())
+        let rows = tables.emergency.as_slice();
+        let taken = &rows[..rows.len().min(MOST_LINES + 1)];
+        self.emergency.renew(heap, &tables.emergency_quarter, taken)
     }
 
     // What stands in a slot of so many lines, added up over the parties.
