@@ -1,0 +1,3 @@
+mod Made
+mod Parties
+mod Wrong

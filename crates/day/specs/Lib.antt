@@ -1,3 +1,6 @@
 pub mod Held
 pub mod Names
-pub mod Counts
+pub mod Parties
+pub mod Texts
+pub mod Records
+pub mod Steps

@@ -1,9 +1,15 @@
 // Reads one record. Nothing of the day is altered here: a record is read whole first.
-ghost use Rattle.std.specs.Prelude.{◌≡◌, ◌+◌, ◌≤◌, true, IfOk};
+ghost use Rattle.std.specs.Prelude.{◌≡◌, ◌+◌, ◌≤◌, true, [], ◌∷◌, IfOk, Some, option_copied};
 ghost use Rattle.text.specs.declared.fields.Fault.TheVariants.{Malformed};
 ghost use Rattle.day.specs.declared.names.Name.TheVariants as names;
+ghost use Rattle.day.specs.declared.reading.Costing.TheVariants as costings;
 ghost use Rattle.day.specs.Names.{field_count, gathers};
-ghost use Rattle.day.specs.Counts.{name_of, setting_name, call_name, Reads, ReadCount, ToldWithin};
+ghost use Rattle.day.specs.Texts as texts;
+ghost use Rattle.day.specs.Texts.{says, held_at, made_by, point_at};
+ghost use Rattle.day.specs.Records.{name_of, setting_name, call_name, after, can, cost_forms, loss_forms, costing_of, first_wrong, malformed_at, Said, SlotSaid, SettlementSaid, PartySaid, CurveSaid, EmergencySaid, CostSaid, EndSaid, LossSaid, ListedSaid, BusSaid, AddersSaid, UnitSaid, SettingSaid, CallSaid};
+ghost use Rattle.day.specs.Records as layouts;
+ghost use Rattle.day.specs.Steps.{Gives, Takes, Told};
+ghost use Rattle.text.specs.Numbers.{number_in, number_or_zero_in};
 
 use crate::held::Held;
 use crate::names::Name;
@@ -19,7 +25,7 @@ use losses::row::{Kind, LossRow};
 use sharing::choice::RuleChoice;
 use sites::site::{Adders, Bus, SiteUnit};
 use std::alloc::Global;
-use std::mem;
+use std::{array, mem};
 use text::fields::{Fault, Fields};
 use text::numbers::{Number, number_in};
 
@@ -37,25 +43,89 @@ pub struct Scene<'d> {
     pub gathering: bool,
 }
 
-// The submitted points, as far as there is room.
-fn points_of(numbers: &[i64]) -> [Point; 10] {
-    let mut points = [Point { power: 0, price: 0 }; 10];
-    for (point, pair) in points.iter_mut().zip(numbers.chunks_exact(2)) {
-        *point = Point {
-            power: i32::held(pair[0]),
-            price: i32::held(pair[1]),
-        };
+// The number at a place, 0 behind the last.
+fn figure_at(numbers: &[i64], place: usize) -> i32
+    ensures { result ≡ held_at numbers.now place }
+{
+    match numbers.get(place) {
+        Some(number) => i32::held(*number),
+        None => 0,
     }
-    points
+}
+
+// The submitted points, as far as there is room.
+fn points_of(numbers: &[i64]) -> [Point; 10]
+    ensures { result ≡ made_by (point_at numbers.now) 0 10 }
+{
+    array::from_fn(|place| Point {
+        power: figure_at(numbers, 2 * place),
+        price: figure_at(numbers, 2 * place + 1),
+    })
 }
 
 // A figure for each slice, as far as there is room.
-fn figures_of(numbers: &[i64]) -> [i32; 15] {
-    let mut figures = [0; 15];
-    for (figure, number) in figures.iter_mut().zip(numbers) {
-        *figure = i32::held(*number);
+fn figures_of(numbers: &[i64]) -> [i32; 15]
+    ensures { result ≡ made_by (held_at numbers.now) 0 15 }
+{
+    array::from_fn(|place| figure_at(numbers, place))
+}
+
+// Which mark a word is.
+fn mark_in(text: &[u8]) -> Option<bool>
+    ensures { result ≡ texts.mark text.now }
+{
+    match text {
+        b"yes" => Some(true),
+        b"no" => Some(false),
+        _ => None,
     }
-    figures
+}
+
+// Which table of rows a word names.
+fn source_in(text: &[u8]) -> Option<SourceName>
+    ensures { result ≡ texts.source text.now }
+{
+    match text {
+        b"emr" => Some(SourceName::Emergency),
+        b"opl" => Some(SourceName::Loss),
+        b"listed" => Some(SourceName::Listed),
+        _ => None,
+    }
+}
+
+// Which rule a word names.
+fn rule_in(text: &[u8]) -> Option<RuleChoice>
+    ensures { result ≡ texts.rule text.now }
+{
+    match text {
+        b"running" => Some(RuleChoice::Running),
+        b"leftover" => Some(RuleChoice::Leftover),
+        _ => None,
+    }
+}
+
+// Which state a word names.
+fn state_in(text: &[u8]) -> Option<State>
+    ensures { result ≡ texts.state text.now }
+{
+    match text {
+        b"open" => Some(State::Open),
+        b"closed" => Some(State::Closed),
+        _ => None,
+    }
+}
+
+// The number of a charge type, by its name or as # and the number.
+fn charge_type_in(text: &[u8]) -> Option<u32>
+    ensures { result ≡ texts.charge_type text.now }
+{
+    match text {
+        b"EMR" => Some(1),
+        b"OPL" => Some(2),
+        b"SOG" => Some(3),
+        [b'#', digits @ ..] => number_in(digits),
+        _ => None,
+    }
 }
 
 // How the cost of a row is known.
@@ -64,6 +134,27 @@ enum Costing {
     Verified,
     Proxy,
     Storage,
+}
+
+// What the fields of a loss row say from its cost on.
+#[derive(Clone, Copy)]
+struct LossEnd {
+    kind: Kind,
+    cap: i32,
+    offer_at_cap: bool,
+    above_lsl: bool,
+}
+
+// How a cost is known, by its word.
+fn costing_in(text: &[u8]) -> Option<Costing>
+    ensures { result ≡ texts.costing text.now }
+{
+    match text {
+        b"verified" => Some(Costing::Verified),
+        b"proxy" => Some(Costing::Proxy),
+        b"storage" => Some(Costing::Storage),
+        _ => None,
+    }
 }
 
 // The fields behind a record's name, read one after another, with the number of the one that was read last: what is
@@ -89,21 +180,22 @@ impl<'t> RecordReader<'t, '_> {
     // Goes on to the next field.
     // Kept: the fields are of several types, so that no loop counts them.
     fn step(&mut self)
-        ensures next { self.new.at ≤ self.old.at + 1 }
+        ensures next { self.new.at ≡ after self.old.at }
         ensures fields { self.new.fields ≡ self.old.fields }
+        ensures scene { self.new.scene ≡ self.old.scene }
     {
         self.at = self.at.saturating_add(1);
     }
 
     fn text(&mut self) -> Result<&'t [u8], Fault>
-        ensures { Reads 1 self.old self.new result }
+        ensures value { Gives texts.any (λ t. t.now) self.old self.new result }
     {
         self.step();
         self.fields.text().ok_or(self.wrong())
     }
 
     fn number<T: Number>(&mut self) -> Result<T, Fault>
-        ensures { Reads 1 self.old self.new result }
+        ensures value { Gives (number_in T.Number.kind) (λ n. n) self.old self.new result }
     {
         self.step();
         self.fields.number().ok_or(self.wrong())
@@ -111,7 +203,7 @@ impl<'t> RecordReader<'t, '_> {
 
     // A number as the library holds it.
     fn held<T: Held>(&mut self) -> Result<T, Fault>
-        ensures { Reads 1 self.old self.new result }
+        ensures value { Gives (texts.held_in T.Held.held (number_in T.Reading.kind)) (λ n. n) self.old self.new result }
     {
         let reading = self.number::<T::Reading>()?;
         Ok(T::held(reading))
@@ -119,7 +211,7 @@ impl<'t> RecordReader<'t, '_> {
 
     // A field that the row's kind does not use: it is empty, or a number that does not count.
     fn unused<T: Number>(&mut self) -> Result<(), Fault>
-        ensures { Reads 1 self.old self.new result }
+        ensures fields { Takes 1 (can (number_or_zero_in T.Number.kind) ∷ []) self.old self.new result }
     {
         self.step();
         self.fields.number_or_zero::<T>().ok_or(self.wrong())?;
@@ -128,7 +220,7 @@ impl<'t> RecordReader<'t, '_> {
 
     // A list of numbers, put in the place of the one before.
     fn list(&mut self) -> Result<(), Fault>
-        ensures { Reads 1 self.old self.new result }
+        ensures value { Gives texts.list (λ _. self.new.numbers.items) self.old self.new result }
     {
         self.step();
         self.numbers.clear();
@@ -137,13 +229,11 @@ impl<'t> RecordReader<'t, '_> {
 
     // A party: by its code, which is enrolled above, or as # and the number.
     fn party(&mut self) -> Result<PartyName<'t>, Fault>
-        ensures { Reads 1 self.old self.new result }
+        ensures value { Gives (texts.party self.old.scene.parties.now) (λ p. p.number) self.old self.new result }
+        ensures written { IfOk result (λ p. says texts.any self.old.fields.rest.now ≡ Some p.written.now) }
     {
         let written = self.text()?;
-        let number = match written {
-            [b'#', digits @ ..] => number_in(digits),
-            code => self.scene.parties.find(code),
-        };
+        let number = self.scene.parties.named(written);
         Ok(PartyName {
             written,
             number: number.ok_or(self.wrong())?,
@@ -152,7 +242,7 @@ impl<'t> RecordReader<'t, '_> {
 
     // A party's number as a row holds it.
     fn party_number(&mut self) -> Result<u8, Fault>
-        ensures { Reads 1 self.old self.new result }
+        ensures value { Gives (texts.party_byte self.old.scene.parties.now) (λ n. n) self.old self.new result }
     {
         let party = self.party()?;
         Ok(u8::held(party.number))
@@ -161,7 +251,7 @@ impl<'t> RecordReader<'t, '_> {
     // The submitted points, and how many.
     // Kept: a submitted curve is a row of fixed size, whose count is told also where there is no room for the points.
     fn points(&mut self) -> Result<(usize, [Point; 10]), Fault>
-        ensures { Reads 1 self.old self.new result }
+        ensures value { Gives texts.points (λ p. p) self.old self.new result }
     {
         self.list()?;
         let count = self.numbers.len();
@@ -174,7 +264,7 @@ impl<'t> RecordReader<'t, '_> {
     // A figure for each slice in force, where these are the slices of what is already there.
     // Kept: a row of fixed size, as the row that they are read for.
     fn figures(&mut self, others: Option<&[u16]>) -> Result<[i32; 15], Fault>
-        ensures { Reads 1 self.old self.new result }
+        ensures value { Gives (texts.figures self.old.scene.slices.now (option_copied others.entry)) (λ xs. xs) self.old self.new result }
     {
         self.list()?;
         let agree = others.is_none_or(|others| others == self.scene.slices);
@@ -185,61 +275,44 @@ impl<'t> RecordReader<'t, '_> {
     }
 
     fn mark(&mut self) -> Result<bool, Fault>
-        ensures { Reads 1 self.old self.new result }
+        ensures value { Gives texts.mark (λ m. m) self.old self.new result }
     {
-        match self.text()? {
-            b"yes" => Ok(true),
-            b"no" => Ok(false),
-            _ => Err(self.wrong()),
-        }
+        let text = self.text()?;
+        mark_in(text).ok_or(self.wrong())
     }
 
     fn source(&mut self) -> Result<SourceName, Fault>
-        ensures { Reads 1 self.old self.new result }
+        ensures value { Gives texts.source (λ x. x) self.old self.new result }
     {
-        match self.text()? {
-            b"emr" => Ok(SourceName::Emergency),
-            b"opl" => Ok(SourceName::Loss),
-            b"listed" => Ok(SourceName::Listed),
-            _ => Err(self.wrong()),
-        }
+        let text = self.text()?;
+        source_in(text).ok_or(self.wrong())
     }
 
     fn rule(&mut self) -> Result<RuleChoice, Fault>
-        ensures { Reads 1 self.old self.new result }
+        ensures value { Gives texts.rule (λ x. x) self.old self.new result }
     {
-        match self.text()? {
-            b"running" => Ok(RuleChoice::Running),
-            b"leftover" => Ok(RuleChoice::Leftover),
-            _ => Err(self.wrong()),
-        }
+        let text = self.text()?;
+        rule_in(text).ok_or(self.wrong())
     }
 
     fn state(&mut self) -> Result<State, Fault>
-        ensures { Reads 1 self.old self.new result }
+        ensures value { Gives texts.state (λ x. x) self.old self.new result }
     {
-        match self.text()? {
-            b"open" => Ok(State::Open),
-            b"closed" => Ok(State::Closed),
-            _ => Err(self.wrong()),
-        }
+        let text = self.text()?;
+        state_in(text).ok_or(self.wrong())
     }
 
     // A charge type: by its name, or as # and the number.
     fn charge_type(&mut self) -> Result<u32, Fault>
-        ensures { Reads 1 self.old self.new result }
+        ensures value { Gives texts.charge_type (λ x. x) self.old self.new result }
     {
-        match self.text()? {
-            b"EMR" => Ok(1),
-            b"OPL" => Ok(2),
-            b"SOG" => Ok(3),
-            [b'#', digits @ ..] => number_in(digits).ok_or(self.wrong()),
-            _ => Err(self.wrong()),
-        }
+        let text = self.text()?;
+        charge_type_in(text).ok_or(self.wrong())
     }
 
     fn slot(&mut self) -> Result<SlotName, Fault>
-        ensures { Reads 2 self.old self.new result }
+        ensures fields { Takes 2 (can texts.charge_type ∷ can texts.natural ∷ []) self.old self.new result }
+        ensures said { IfOk result (SlotSaid self.old.fields.rest.now) }
     {
         Ok(SlotName {
             charge_type: self.charge_type()?,
@@ -248,7 +321,7 @@ impl<'t> RecordReader<'t, '_> {
     }
 
     fn loads(&mut self) -> Result<Vec<u32>, Fault>
-        ensures { Reads 1 self.old self.new result }
+        ensures value { Gives texts.loads (λ v. v.items) self.old self.new result }
     {
         self.list()?;
         Ok(
@@ -260,7 +333,8 @@ impl<'t> RecordReader<'t, '_> {
     }
 
     fn settlement(&mut self) -> Result<Settlement, Fault>
-        ensures { Reads 5 self.old self.new result }
+        ensures fields { Takes 5 (layouts.forms self.old.scene names.Settle self.old.fields.rest.now) self.old self.new result }
+        ensures said { IfOk result (SettlementSaid self.old.fields.rest.now) }
     {
         Ok(Settlement {
             slot: self.slot()?,
@@ -271,7 +345,8 @@ impl<'t> RecordReader<'t, '_> {
     }
 
     fn entry(&mut self) -> Result<Call<'t>, Fault>
-        ensures fields { Reads 3 self.old self.new result }
+        ensures fields { Takes 3 (layouts.forms self.old.scene names.Entry self.old.fields.rest.now) self.old self.new result }
+        ensures said { IfOk result (CallSaid self.old.scene self.old.fields.rest.now) }
         ensures named { IfOk result (λ call. call_name call ≡ names.Entry) }
     {
         let slot = self.slot()?;
@@ -280,7 +355,8 @@ impl<'t> RecordReader<'t, '_> {
     }
 
     fn curve(&mut self) -> Result<SubmittedCurve, Fault>
-        ensures { Reads 5 self.old self.new result }
+        ensures fields { Takes 5 (layouts.forms self.old.scene names.Curve self.old.fields.rest.now) self.old self.new result }
+        ensures said { IfOk result (CurveSaid self.old.fields.rest.now) }
     {
         let resource = self.held()?;
         let hour = self.held()?;
@@ -298,7 +374,7 @@ impl<'t> RecordReader<'t, '_> {
     }
 
     fn quarter(&mut self) -> Result<Vec<u16>, Fault>
-        ensures { Reads 1 self.old self.new result }
+        ensures value { Gives texts.seconds (λ v. v.items) self.old self.new result }
     {
         self.step();
         let mut numbers: Vec<u32> = Vec::new(self.heap);
@@ -312,7 +388,8 @@ impl<'t> RecordReader<'t, '_> {
     }
 
     fn emergency(&mut self) -> Result<EmergencyRow, Fault>
-        ensures { Reads 8 self.old self.new result }
+        ensures fields { Takes 8 (layouts.forms self.old.scene names.Emergency self.old.fields.rest.now) self.old self.new result }
+        ensures said { IfOk result (EmergencySaid self.old.scene self.old.fields.rest.now) }
     {
         Ok(EmergencyRow {
             party: self.party_number()?,
@@ -328,7 +405,8 @@ impl<'t> RecordReader<'t, '_> {
 
     // What a verified cost is made from: six fields.
     fn verified(&mut self) -> Result<Kind, Fault>
-        ensures { Reads 6 self.old self.new result }
+        ensures fields { Takes 6 (cost_forms costings.Verified) self.old self.new result }
+        ensures said { IfOk result (λ kind. CostSaid self.old.fields.rest.now kind × (costing_of kind ≡ costings.Verified)) }
     {
         let heat_rate = self.held()?;
         let fuel_price = self.held()?;
@@ -346,7 +424,8 @@ impl<'t> RecordReader<'t, '_> {
 
     // What a cost by category is made from: the same six fields.
     fn proxy(&mut self) -> Result<Kind, Fault>
-        ensures { Reads 6 self.old self.new result }
+        ensures fields { Takes 6 (cost_forms costings.Proxy) self.old self.new result }
+        ensures said { IfOk result (λ kind. CostSaid self.old.fields.rest.now kind × (costing_of kind ≡ costings.Proxy)) }
     {
         let heat_rate = self.held()?;
         let fuel_price = self.held()?;
@@ -364,7 +443,8 @@ impl<'t> RecordReader<'t, '_> {
 
     // What a storage's cost is made from: the same six fields.
     fn storage(&mut self) -> Result<Kind, Fault>
-        ensures { Reads 6 self.old self.new result }
+        ensures fields { Takes 6 (cost_forms costings.Storage) self.old self.new result }
+        ensures said { IfOk result (λ kind. CostSaid self.old.fields.rest.now kind × (costing_of kind ≡ costings.Storage)) }
     {
         self.unused::<i64>()?;
         self.unused::<i64>()?;
@@ -380,18 +460,15 @@ impl<'t> RecordReader<'t, '_> {
 
     // The word that says how the cost of a row is known.
     fn costing(&mut self) -> Result<Costing, Fault>
-        ensures { Reads 1 self.old self.new result }
+        ensures value { Gives texts.costing (λ x. x) self.old self.new result }
     {
-        match self.text()? {
-            b"verified" => Ok(Costing::Verified),
-            b"proxy" => Ok(Costing::Proxy),
-            b"storage" => Ok(Costing::Storage),
-            _ => Err(self.wrong()),
-        }
+        let text = self.text()?;
+        costing_in(text).ok_or(self.wrong())
     }
 
     fn kind(&mut self, costing: Costing) -> Result<Kind, Fault>
-        ensures { Reads 6 self.old self.new result }
+        ensures fields { Takes 6 (cost_forms costing) self.old self.new result }
+        ensures said { IfOk result (λ kind. CostSaid self.old.fields.rest.now kind × (costing_of kind ≡ costing)) }
     {
         match costing {
             Costing::Verified => self.verified(),
@@ -400,16 +477,13 @@ impl<'t> RecordReader<'t, '_> {
         }
     }
 
-    fn loss(&mut self) -> Result<LossRow, Fault>
-        ensures { Reads 14 self.old self.new result }
+    // The nine fields from the cost on.
+    #[tactic(auto, using(crate::proofs::Wrong::cost_told, crate::proofs::Wrong::cost_passed))]
+    fn loss_end(&mut self, costing: Costing) -> Result<LossEnd, Fault>
+        ensures fields { Takes 9 (loss_forms (Some costing)) self.old self.new result }
+        ensures said { IfOk result (λ end. EndSaid self.old.fields.rest.now end × (costing_of end.kind ≡ costing)) }
     {
-        let party = self.party_number()?;
-        let costing = self.costing()?;
-        Ok(LossRow {
-            party,
-            resource: self.held()?,
-            spp: self.held()?,
-            generation: self.held()?,
+        Ok(LossEnd {
             kind: self.kind(costing)?,
             cap: self.held()?,
             offer_at_cap: self.mark()?,
@@ -417,8 +491,31 @@ impl<'t> RecordReader<'t, '_> {
         })
     }
 
+    fn loss(&mut self) -> Result<LossRow, Fault>
+        ensures fields { Takes 14 (layouts.forms self.old.scene names.Loss self.old.fields.rest.now) self.old self.new result }
+        ensures said { IfOk result (LossSaid self.old.scene self.old.fields.rest.now) }
+    {
+        let party = self.party_number()?;
+        let costing = self.costing()?;
+        let resource = self.held()?;
+        let spp = self.held()?;
+        let generation = self.held()?;
+        let end = self.loss_end(costing)?;
+        Ok(LossRow {
+            party,
+            resource,
+            spp,
+            generation,
+            kind: end.kind,
+            cap: end.cap,
+            offer_at_cap: end.offer_at_cap,
+            above_lsl: end.above_lsl,
+        })
+    }
+
     fn listed(&mut self) -> Result<ListedRow, Fault>
-        ensures { Reads 3 self.old self.new result }
+        ensures fields { Takes 3 (layouts.forms self.old.scene names.Listed self.old.fields.rest.now) self.old self.new result }
+        ensures said { IfOk result (ListedSaid self.old.scene self.old.fields.rest.now) }
     {
         Ok(ListedRow {
             party: self.party_number()?,
@@ -428,7 +525,8 @@ impl<'t> RecordReader<'t, '_> {
     }
 
     fn bus(&mut self) -> Result<Bus, Fault>
-        ensures { Reads 2 self.old self.new result }
+        ensures fields { Takes 2 (layouts.forms self.old.scene names.Bus self.old.fields.rest.now) self.old self.new result }
+        ensures said { IfOk result (BusSaid self.old.scene self.old.fields.rest.now) }
     {
         Ok(Bus {
             energy: self.held()?,
@@ -437,7 +535,8 @@ impl<'t> RecordReader<'t, '_> {
     }
 
     fn adders(&mut self) -> Result<Adders, Fault>
-        ensures { Reads 2 self.old self.new result }
+        ensures fields { Takes 2 (layouts.forms self.old.scene names.Adders self.old.fields.rest.now) self.old self.new result }
+        ensures said { IfOk result (AddersSaid self.old.scene self.old.fields.rest.now) }
     {
         Ok(Adders {
             first: self.figures(self.scene.of_parts)?,
@@ -446,7 +545,8 @@ impl<'t> RecordReader<'t, '_> {
     }
 
     fn unit(&mut self) -> Result<SiteUnit, Fault>
-        ensures { Reads 3 self.old self.new result }
+        ensures fields { Takes 3 (layouts.forms self.old.scene names.Unit self.old.fields.rest.now) self.old self.new result }
+        ensures said { IfOk result (UnitSaid self.old.scene self.old.fields.rest.now) }
     {
         Ok(SiteUnit {
             party: self.party_number()?,
@@ -456,7 +556,8 @@ impl<'t> RecordReader<'t, '_> {
     }
 
     fn adjust(&mut self) -> Result<Setting, Fault>
-        ensures fields { Reads 2 self.old self.new result }
+        ensures fields { Takes 2 (layouts.forms self.old.scene names.Adjust self.old.fields.rest.now) self.old self.new result }
+        ensures said { IfOk result (SettingSaid self.old.fields.rest.now) }
         ensures named { IfOk result (λ setting. setting_name setting ≡ names.Adjust) }
     {
         let resource = self.number()?;
@@ -465,8 +566,9 @@ impl<'t> RecordReader<'t, '_> {
     }
 
     fn record(&mut self, name: Name) -> Result<Record<'t>, Fault>
-        ensures fields { Reads (field_count name) self.old self.new result }
         ensures named { IfOk result (λ r. name_of r ≡ name) }
+        ensures fields { Takes (field_count name) (layouts.forms self.old.scene name self.old.fields.rest.now) self.old self.new result }
+        ensures said { IfOk result (Said self.old.scene self.old.fields.rest.now) }
     {
         Ok(match name {
             Name::Party => Record::Enrolment(Enrolment::Party(self.text()?)),
@@ -515,10 +617,9 @@ pub fn read<'t>(
     scene: &Scene<'_>,
     numbers: &mut Vec<i64>,
 ) -> Result<Record<'t>, Fault>
-    ensures count { ReadCount name fields.entry.rest.now result }
-    ensures told { ToldWithin name result }
+    ensures told { Told (malformed_at scene.now name fields.entry.rest.now) result }
     ensures named { IfOk result (λ r. name_of r ≡ name) }
-    ensures timely { IfOk result (λ _. gathers name ≡ true → scene.now.gathering ≡ true) }
+    ensures said { IfOk result (Said scene.now fields.entry.rest.now) }
 {
     if comes_first(name) && !scene.gathering {
         return Err(Fault::Malformed(0));

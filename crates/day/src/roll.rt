@@ -1,5 +1,7 @@
 // The parties in the order in which they were enrolled.
-ghost use Rattle.std.specs.Prelude.{◌≡◌, ◌-◌, ◌<◌, ◌≤◌, ◌↔◌, ◌⊎◌, [], ◌∷◌, ◌++◌, length, slice_get, is_ok, if◌then◌else◌, IfOk, IfSome, IsNone, Some, List, map, ℕ};
+ghost use Rattle.std.specs.Prelude.{◌≡◌, ◌-◌, ◌<◌, ◌↔◌, ◌⊎◌, [], ◌∷◌, ◌++◌, length, slice_get, is_ok, if◌then◌else◌, IfOk, IfSome, IsNone, IsTrue, Some, List, map, ℕ};
+ghost use Rattle.day.specs.Texts.{party};
+ghost use Rattle.day.specs.Parties.{number_of, Agrees, HasCode, GoesBy};
 
 use directory::parties::PartyCode;
 use std::alloc::{AllocError, Global};
@@ -14,11 +16,13 @@ pub struct Roll {
     numbers: HashMap<Vec<u8>, u32>,
 }
 
-// Clauses see the codes.
+// Clauses see the codes; the numbers agree with them.
 impl Model for Roll {
     ghost Value = { List (List ℕ) };
 
     ghost view = { λ roll. map (λ code. code.items) roll.codes.items };
+
+    ghost invariant = { λ roll. Agrees roll.numbers (map (λ code. code.items) roll.codes.items) };
 }
 
 impl Roll {
@@ -38,29 +42,33 @@ impl Roll {
         self.codes.len()
     }
 
+    // One more party, behind the others. Room for its code is made first, so that no number is kept that no party has. A number has
+    // 32 bits, and more parties than it counts are refused as too many for the memory.
     pub fn enrol(&mut self, heap: Global, code: &[u8]) -> Result<(), AllocError>
         ensures { self.new ≡ (if is_ok result then self.old ++ code.now ∷ [] else self.old) }
     {
-        let number = u32::try_from(self.codes.len())
-            .unwrap_or(u32::MAX)
-            .saturating_add(1);
+        let number = u32::try_from(self.codes.len().saturating_add(1)).map_err(|_| AllocError)?;
         let key = Vec::from_slice(heap, code)?;
         let code = Vec::from_slice(heap, code)?;
+        self.codes.reserve(1)?;
         self.numbers.entry(key)?.or_insert(number);
         Ok(self.codes.push(code)?)
     }
 
     // The number, from 1, of the first party with that code.
-    // That the party of that number has the code is looked up once more, so that it is promised.
     pub fn find(&self, code: &[u8]) -> Option<u32>
-        ensures { IfSome result (λ n. (1 ≤ n) × (slice_get self.now (n - 1) ≡ Some code.now)) }
+        ensures { result ≡ number_of code.now self.now }
     {
-        let number = *self.numbers.get(code)?;
-        let found = self.code(usize::try_from(number).ok()?)?;
-        if number > 0 && found == code {
-            Some(number)
-        } else {
-            None
+        self.numbers.get(code).copied()
+    }
+
+    // The number that a name stands for: the one behind #, or else that of the first party with that code.
+    pub fn named(&self, name: &[u8]) -> Option<u32>
+        ensures { result ≡ party self.now name.now }
+    {
+        match name {
+            [b'#', digits @ ..] => number_in(digits),
+            code => self.find(code),
         }
     }
 
@@ -74,13 +82,22 @@ impl Roll {
             .map(|code| code.as_slice())
     }
 
+    // Whether the party with that number has that code.
+    fn has_code(&self, number: usize, code: &[u8]) -> bool
+        ensures { IsTrue result ↔ HasCode self.now number code.now }
+    {
+        self.code(number).is_some_and(|known| known == code)
+    }
+
     // Whether a party goes by that name: its code, or # and its number.
-    pub fn is_named(&self, name: &[u8], number: usize) -> bool {
+    pub fn is_named(&self, name: &[u8], number: usize) -> bool
+        ensures { IsTrue result ↔ GoesBy self.now number name.now }
+    {
         match name {
             [b'#', digits @ ..] => number_in::<u32>(digits).is_some_and(|wanted| usize::try_from(
                 wanted,
             ).is_ok_and(|wanted| wanted == number)),
-            code => self.code(number).is_some_and(|known| known == code),
+            code => self.has_code(number, code),
         }
     }
 

@@ -108,21 +108,21 @@ verdict (refused number place carried) = refuses number place carried
 verdict (balance_is v) = answers
 verdict (entry_is stands e) = answers
 
--- (a) The balances of all parties, as balance answers them, add up to zero. Each is the sum, over the standing settlements, of the party's source lines and charges.
+-- Balances. The balances of all parties, as balance answers them, add up to zero. Each is the sum, over the standing settlements, of the party's source lines and charges.
 pub record Balanced (parties intervals : ℕ) (met : List Met) (b : Book) : Type 0 where
   pub each : (p : ℕ) → Among p parties → answer b (balance p) ≡ balance_is (owed intervals met p)
   pub zero_sum : over parties (λ p. balance_told (answer b (balance p))) ≡ pos 0
 
--- (b) In each standing settlement with load, each party's charge, as the book keeps it, differs by less than one cent from its exact load share of what was paid out.
+-- Cents. In each standing settlement with load, each party's charge, as the book keeps it, differs by less than one cent from its exact load share of what was paid out.
 abbrev pub WithinACent : ℕ → List Met → Book → Type 0
 WithinACent parties met b = (t i : ℕ) (s : Settlement) → standing met t i ≡ Some s → 0 < all_load s → (p : ℕ) → Among p parties → apart ((b.keeps t i p).charged *ℤ pos (all_load s)) (paid_out s *ℤ pos (load_of s p)) < all_load s
 
--- (c) A second book that met the same list with other sharing rules accepts the same calls, refuses the rest with the same number, place and fault, and no party's two balances differ by more than one cent for each standing settlement.
+-- Any rules. A second book that met the same list with other sharing rules accepts the same calls, refuses the rest with the same number, place and fault, and no party's two balances differ by more than one cent for each standing settlement.
 pub record Alike (parties intervals : ℕ) (met : List Met) (b : Book) (met' : List Met) (b' : Book) : Type 0 where
   pub same_verdicts : map (λ m. verdict m.got) met ≡ map (λ m. verdict m.got) met'
   pub near : (p : ℕ) → Among p parties → pos (apart (balance_told (answer b (balance p))) (balance_told (answer b' (balance p)))) ≤ℤ how_many intervals met
 
--- What stands is what the list says: of each slot and party, entry answers whether a settlement stands, and what that posts for the party; zeros where none stands.
+-- Entries. What stands is what the list says: of each slot and party, entry answers whether a settlement stands, and what that posts for the party; zeros where none stands.
 abbrev pub Entered : (parties intervals : ℕ) → List Met → Book → Type 0
 Entered parties intervals met b = (t i p : ℕ) → SlotOf intervals t i → Among p parties → answer b (look t i p) ≡ entry_is (is_some (standing met t i)) (posted (standing met t i) p)
 

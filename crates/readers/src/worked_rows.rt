@@ -7,9 +7,9 @@ use charges::reader::{BasisReader, Reader};
 
 // The reader of rows that are worked out.
 #[derive(Clone, Copy, PartialEq, Eq, Debug)]
-pub struct Told;
+pub struct WorkedReader;
 
-impl Reader<WorkedRow> for Told {
+impl Reader<WorkedRow> for WorkedReader {
     ghost line_of = { λ _ _ worked. worked.line };
 
     ghost ranged = { λ _ _ worked. worked_ranged worked.line worked.ranged };
@@ -19,7 +19,7 @@ impl Reader<WorkedRow> for Told {
     }
 }
 
-impl BasisReader<WorkedRow> for Told {
+impl BasisReader<WorkedRow> for WorkedReader {
     ghost basis_by = { λ _ _ worked. worked.basis };
 
     #[tactic(auto, using(crate::specs::Worked::worked_based))]

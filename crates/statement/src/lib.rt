@@ -1,4 +1,4 @@
-// What a day leaves: each party's statement with the steps of each formula, and the journal of the standing settlements.
+// What a day leaves: each party's statement with the steps of its formulas, and the journal of the standing settlements.
 #![tactic(auto)]
 
 pub mod journal;

@@ -5,7 +5,7 @@ pub const HELP: &str = "uplift settles the real-time uplift of a day from a text
 
   uplift run [FILE] [--explain]       does the records in order and answers each; with --explain a refusal is told in words too
   uplift demo                         shows a sample day with its answers
-  uplift statement FILE [PARTY]       tells each party's standing settlements with the steps to every amount, and its balance
+  uplift statement FILE [PARTY]       tells each party's standing settlements with the steps of its formulas, and its balance
   uplift journal FILE [--date=DATE]   writes the standing settlements as a journal for hledger or ledger, dated 2000-01-01 or DATE
   uplift help                         tells this
 

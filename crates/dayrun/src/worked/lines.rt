@@ -13,7 +13,7 @@ use emergency::row::EmergencyRow;
 use quarters::quarter::QuarterHour;
 use readers::emergency_rows::EmergencyReader;
 use readers::worked::WorkedRow;
-use readers::worked_rows::Told;
+use readers::worked_rows::WorkedReader;
 use std::alloc::{AllocError, Global};
 
 // Each row as its line, the first as line 1.
@@ -81,13 +81,13 @@ impl<'d> WorkedRows<'d> {
     }
 
     // The rows as a source: its lines are theirs.
-    pub fn source(&self) -> RowSource<'_, WorkedRow, Told>
+    pub fn source(&self) -> RowSource<'_, WorkedRow, WorkedReader>
         ensures lines { map (λ worked. worked.line) result.rows.now ≡ numbered (emergency_line (slices_of self.now.quarter) self.now.curves.records.now) 1 self.now.rows.items }
         ensures bases { map (λ worked. worked.basis) result.rows.now ≡ map (emergency_basis (slices_of self.now.quarter) self.now.curves.records.now) self.now.rows.items }
     {
         RowSource {
             rows: self.worked.as_slice(),
-            reader: Told,
+            reader: WorkedReader,
         }
     }
 }
