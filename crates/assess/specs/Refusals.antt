@@ -1,5 +1,5 @@
 -- The number and the place of each refusal, what it carries, and what a call answers by the law's words.
-use Rattle.std.specs.Prelude.{ℕ, ℤ, Some, None, Ok, Err, Option, Result}
+use Rattle.std.specs.Prelude.{ℕ, ◌≤◌, ℤ, Some, None, Ok, Err, Option, Result}
 use Rattle.walk.specs.declared.flaw.Flaw.{Flaw}
 use Rattle.walk.specs.declared.flaw.Flaw.TheVariants as flaws
 use Rattle.law.specs.Steps.{Carried, Answer, accepted, refused, balance_is, Finding, clear, raises}
@@ -48,6 +48,20 @@ carries (Unfit n) = None
 carries Total = None
 carries NoLoad = None
 carries NoParty = None
+
+-- a refusal for a load names the party, so that it is told apart from one for their number
+abbrev pub NamesParty : Refusal → Type 0
+NamesParty Size = Unit {0}
+NamesParty NoSlot = Unit {0}
+NamesParty LoadCount = Unit {0}
+NamesParty (Load p) = 1 ≤ p
+NamesParty Standing = Unit {0}
+NamesParty ManyLines = Unit {0}
+NamesParty (Faulty t i n f) = Unit {0}
+NamesParty (Unfit n) = Unit {0}
+NamesParty Total = Unit {0}
+NamesParty NoLoad = Unit {0}
+NamesParty NoParty = Unit {0}
 
 -- the refusal for a flaw of the lines that are settled in a slot
 abbrev pub refused_flaw : ℕ → ℕ → Flaw → Refusal

@@ -1,10 +1,11 @@
 // The lines of a settlement, and its charges.
 ghost use Rattle.std.specs.Prelude.{◌≡◌, ℕ, ◌-◌, ◌<◌, ◌≤◌, length, pos, neg_ℤ, IfOk, if◌then◌else◌, sum, OnOk, nat_lt, slice_index_or, unsigned_abs};
 ghost use Rattle.std.specs.List.{AllByRecursion};
+ghost use Rattle.std.specs.Result.{IfErr};
 ghost use Rattle.walk.specs.Totals.{total_of, sum_for};
 ghost use Rattle.law.specs.Settlements.{Among};
 ghost use Rattle.law.specs.Steps.{first};
-ghost use Rattle.assess.specs.Refusals.{raised};
+ghost use Rattle.assess.specs.Refusals.{raised, NamesParty};
 ghost use Rattle.assess.specs.Halves.{line_checks};
 
 use crate::checks::{check_covered, check_total};
@@ -36,6 +37,7 @@ pub fn work_out<S: LineSource>(
     requires few { length loads.now ≤ MOST_PARTIES }
     requires room { parties ≤ length paid.old }
     ensures checks { raised result ≡ first (line_checks parties charge_type interval loads.now (S.LineSource.lines source.now)) }
+    ensures party { IfErr result NamesParty }
     ensures sums { IfOk result (λ x. (x.total ≡ total_of (S.LineSource.lines source.now)) × (x.load ≡ sum loads.now)) }
     ensures paid { OnOk result ((p : ℕ) → Among p parties → slice_index_or paid.new (p - 1) (pos 0) ≡ sum_for p (S.LineSource.lines source.now)) }
     ensures rest { (k : ℕ) → parties ≤ k → slice_index_or paid.new k (pos 0) ≡ slice_index_or paid.old k (pos 0) }

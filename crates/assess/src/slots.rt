@@ -1,7 +1,8 @@
 // A slot of a book: one charge type in one interval.
 ghost use Rattle.std.specs.Prelude.{◌≡◌, ◌&&◌, IfOk};
+ghost use Rattle.std.specs.Result.{IfErr};
 ghost use Rattle.law.specs.Steps.{holds_or, among};
-ghost use Rattle.assess.specs.Refusals.{raised};
+ghost use Rattle.assess.specs.Refusals.{raised, NamesParty};
 ghost use Rattle.assess.specs.Slots.{type_number, IsTypeOf, Names, Within};
 
 use crate::refusals::Refusal;
@@ -58,6 +59,7 @@ impl SlotId {
     // The slot that these numbers name in a book of so many intervals, or that there is none.
     pub fn of(intervals: usize, charge_type: u8, interval: usize) -> Result<SlotId, Refusal>
         ensures check { raised result ≡ holds_or (among charge_type 3 && among interval intervals) 31 0 }
+        ensures party { IfErr result NamesParty }
         ensures named { IfOk result (λ slot. Names slot charge_type interval) }
         ensures within { IfOk result (Within intervals) }
     {

@@ -1,9 +1,10 @@
 // Settle, restate and void.
 ghost use Rattle.std.specs.Prelude.{◌≡◌, ℕ, ◌-◌, ◌≤◌, length, pos, IfOk, sum, OnOk, slice_index_or};
+ghost use Rattle.std.specs.Result.{IfErr};
 ghost use Rattle.walk.specs.Totals.{total_of, sum_for};
 ghost use Rattle.law.specs.Settlements.{Among};
 ghost use Rattle.law.specs.Steps.{first, checks, settle as settling, restate as restating, void as voiding};
-ghost use Rattle.assess.specs.Refusals.{raised, said};
+ghost use Rattle.assess.specs.Refusals.{raised, said, NamesParty};
 ghost use Rattle.assess.specs.Slots.{type_number, Within};
 ghost use Rattle.assess.specs.Halves.{slot_checks};
 ghost use Rattle.book.specs.Model.{named, row, blank};
@@ -47,7 +48,8 @@ impl<'a> Book<'a> {
         source: &S,
         rule: &R,
     ) -> Result<(), Refusal>
-        ensures { Moves self.old (settling charge_type interval (brought loads.entry.now (S.LineSource.lines source.now) (R.SharingRule.meaning rule.now))) (said result) self.new }
+        ensures moves { Moves self.old (settling charge_type interval (brought loads.entry.now (S.LineSource.lines source.now) (R.SharingRule.meaning rule.now))) (said result) self.new }
+        ensures party { IfErr result NamesParty }
     {
         self.put(false, charge_type, interval, loads, source, rule)
     }
@@ -62,7 +64,8 @@ impl<'a> Book<'a> {
         source: &S,
         rule: &R,
     ) -> Result<(), Refusal>
-        ensures { Moves self.old (restating charge_type interval (brought loads.entry.now (S.LineSource.lines source.now) (R.SharingRule.meaning rule.now))) (said result) self.new }
+        ensures moves { Moves self.old (restating charge_type interval (brought loads.entry.now (S.LineSource.lines source.now) (R.SharingRule.meaning rule.now))) (said result) self.new }
+        ensures party { IfErr result NamesParty }
     {
         self.put(true, charge_type, interval, loads, source, rule)
     }
@@ -92,7 +95,8 @@ impl<'a> Book<'a> {
         source: &S,
         rule: &R,
     ) -> Result<(), Refusal>
-        ensures { Moves self.old (named wanted charge_type interval (brought loads.entry.now (S.LineSource.lines source.now) (R.SharingRule.meaning rule.now))) (said result) self.new }
+        ensures moves { Moves self.old (named wanted charge_type interval (brought loads.entry.now (S.LineSource.lines source.now) (R.SharingRule.meaning rule.now))) (said result) self.new }
+        ensures party { IfErr result NamesParty }
     {
         let slot = SlotId::of(self.intervals, charge_type, interval)?;
         // Kept: amounts for as many parties as a book can have, since nothing is allocated and a rule writes its shares into a slice.
@@ -119,6 +123,7 @@ impl<'a> Book<'a> {
         requires slot { Within self.now.intervals slot }
         requires room { MOST_PARTIES ≤ length paid.old }
         ensures checks { raised result ≡ first (checks self.now.parties self.now.intervals ((model self.now).stands (type_number slot.charge_type) slot.interval) wanted (type_number slot.charge_type) slot.interval loads.now (S.LineSource.lines source.now)) }
+        ensures party { IfErr result NamesParty }
         ensures sums { IfOk result (λ x. (x.total ≡ total_of (S.LineSource.lines source.now)) × (x.load ≡ sum loads.now)) }
         ensures paid { OnOk result ((p : ℕ) → Among p self.now.parties → slice_index_or paid.new (p - 1) (pos 0) ≡ sum_for p (S.LineSource.lines source.now)) }
     {
@@ -136,7 +141,8 @@ impl<'a> Book<'a> {
     // The checks on the slot and the loads.
     fn check_front(&self, wanted: bool, slot: SlotId, loads: &[u32]) -> Result<(), Refusal>
         requires { Within self.now.intervals slot }
-        ensures { raised result ≡ first (slot_checks self.now.parties self.now.intervals ((model self.now).stands (type_number slot.charge_type) slot.interval) wanted (type_number slot.charge_type) slot.interval loads.now) }
+        ensures checks { raised result ≡ first (slot_checks self.now.parties self.now.intervals ((model self.now).stands (type_number slot.charge_type) slot.interval) wanted (type_number slot.charge_type) slot.interval loads.now) }
+        ensures party { IfErr result NamesParty }
     {
         check_count(self.parties, loads)?;
         check_loads(loads)?;

@@ -11,13 +11,13 @@ returns-in_err-settle-clause-answer g c =
     let rule = g.R.SharingRule.meaning c.args.rule.now in
     let p = err_from_is_err_and c.from_residual-in_err-settle.result c.from_residual-in_err-settle.ensures.1 in
     subst (λ r. Answered (thirds_checks c.args.book.now c.args.load) number_of place_of (λ v. v ≡ thirds_by rule c.args.load) r) (sym (p.1 ∙ ap Err p.2))
-    (inr (c.in_ok-open.ensures.fits, refused_bill _ rule c.args.load c.in_ok-open.ensures.opened _ _ _ c.in_err-settle.ensures.step.says))
+    (inr (c.in_ok-open.ensures.fits, refused_bill _ rule c.args.load c.in_ok-open.ensures.opened _ _ _ c.in_err-settle.ensures.moves.step.says))
 
 pub returns-clause-answer : goal.returns-clause-answer
 returns-clause-answer g c =
     let rule = g.R.SharingRule.meaning c.args.rule.now in
     let o = c.in_ok-open.ensures.opened in
-    let s = c.in_ok-settle.ensures.step in
+    let s = c.in_ok-settle.ensures.moves.step in
     let range = accepted_bill _ rule c.args.load o s.says in
     let all = asked_thirds _ rule c.args.load o _ s c.balances.result c.balances.ensures in
     subst (λ r. Answered (thirds_checks c.args.book.now c.args.load) number_of place_of (λ v. v ≡ thirds_by rule c.args.load) r) (sym all)
@@ -27,5 +27,5 @@ pub returns-clause-met : goal.returns-clause-met
 returns-clause-met g c =
     let rule = g.R.SharingRule.meaning c.args.rule.now in
     let o = c.in_ok-open.ensures.opened in
-    let s = c.in_ok-settle.ensures.step in
+    let s = c.in_ok-settle.ensures.moves.step in
     rw (asked_thirds _ rule c.args.load o _ s c.balances.result c.balances.ensures) (met_bill _ rule c.args.load o _ s)

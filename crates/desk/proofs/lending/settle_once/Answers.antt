@@ -10,4 +10,4 @@ returns-clause-met g c enough_slots enough_entries =
     let many_entries = ap length c.over-book.ensures.entries.0 in
     let fits : FitsIn 2 1 before = ((omega arith, omega arith), (omega arith, omega arith), omega arith, omega arith) in
     let tables = same_tables 2 1 before c.open.new.self c.open.result c.open.ensures in
-    lent_met before c.open.new.self c.settle.new.self _ c.open.result _ _ _ fits c.open.ensures c.settle.ensures.step (search rules) (search rules)
+    lent_met before c.open.new.self c.settle.new.self _ c.open.result _ _ _ fits c.open.ensures c.settle.ensures.moves.step (search rules) (search rules)

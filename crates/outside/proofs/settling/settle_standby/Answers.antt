@@ -14,7 +14,7 @@ returns-in_err-settle c =
     let same = same_fees c.args.loads.now c.over-source.result.state (held_by c.over-source.result.below.table) c.over-source.result.below.below c.args.standby rule
     c.over-source.ensures.state (ap (λ x. held_by x.table) c.over-source.ensures.below ∙ c.over.ensures.none) (ap (λ x. x.below) c.over-source.ensures.below ∙ c.over.ensures.below) in
     subst (λ s. FeesSettled s c.args.book.now c.from_residual-in_err-settle.result c.settle.new.self) same
-    (fees_refused (model c.open.new.self) c.settle.new.self _ c.in_ok-open.ensures.opened c.args.book.now c.from_residual-in_err-settle.result _ (p.1 ∙ ap Err p.2) c.in_err-settle.ensures.step)
+    (fees_refused (model c.open.new.self) c.settle.new.self _ c.in_ok-open.ensures.opened c.args.book.now c.from_residual-in_err-settle.result _ (p.1 ∙ ap Err p.2) c.in_err-settle.ensures.moves.step)
 
 pub returns : goal.returns
 returns c =
@@ -22,4 +22,4 @@ returns c =
     let same = same_fees c.args.loads.now c.over-source.result.state (held_by c.over-source.result.below.table) c.over-source.result.below.below c.args.standby rule
     c.over-source.ensures.state (ap (λ x. held_by x.table) c.over-source.ensures.below ∙ c.over.ensures.none) (ap (λ x. x.below) c.over-source.ensures.below ∙ c.over.ensures.below) in
     subst (λ s. FeesSettled s c.args.book.now c.balances.result c.settle.new.self) same
-    (fees_settled (model c.open.new.self) c.settle.new.self _ c.in_ok-open.ensures.opened c.args.book.now c.balances.result c.in_ok-settle.ensures.step c.balances.ensures)
+    (fees_settled (model c.open.new.self) c.settle.new.self _ c.in_ok-open.ensures.opened c.args.book.now c.balances.result c.in_ok-settle.ensures.moves.step c.balances.ensures)

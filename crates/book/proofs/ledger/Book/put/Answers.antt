@@ -16,8 +16,8 @@ charge-requires-clause-small g c =
     let s = brought c.args.loads.now (g.S.LineSource.lines c.args.source.now) (g.R.SharingRule.meaning c.args.rule.now) in
     (checks_so b.parties b.intervals _ c.args.wanted (type_number slot.charge_type) slot.interval s (g.R.SharingRule.fair c.args.rule.now) (sym c.in_ok-totals.ensures.checks)).small
 
-pub returns : goal.returns
-returns g c =
+pub returns-clause-moves : goal.returns-clause-moves
+returns-clause-moves g c =
     let b = c.args.self.now in
     let slot = c.in_ok-slot.slot in
     let start : ℕ = c.row-row.result.start in
