@@ -4,7 +4,7 @@ use Rattle.std.proofs.lemmas.Int.{ints}
 use Rattle.std.proofs.lemmas.Bool.{le-leb, lt-leb, lt-ltb, le-ltb, cases_lt}
 use Rattle.numbers.specs.Checks.{Refused}
 use Rattle.law.specs.Settlements.{Among, Book, Rule}
-use Rattle.law.specs.Steps.{Carried, answer, settle, balance, balance_is, accepted, refused, Step}
+use Rattle.law.specs.Steps.{Carried, Answer, answer, settle, balance, balance_is, accepted, refused, Step}
 use Rattle.assess.specs.declared.refusals.Refusal.{Refusal}
 use Rattle.desk.specs.Asked.{Asked}
 use Rattle.law.specs.Runs.{Met, MetCalls, Opened, owed, balance_told}
@@ -111,5 +111,5 @@ module _ (start : Book) (rule : Rule) (load : ℕ) (o : Opened 3 1 start) where
   asked_thirds b s (Err e) a = absurd (let p = s.left.parties_stay in let q = o.fresh.has_parties in omega arith)
 
   -- the book then has met the bill
-  pub met_bill : (b : Book) → Step start (settle 1 1 (bill rule load)) accepted b → MetCalls 3 1 (settle 1 1 (bill rule load) ∷ []) b
-  met_bill b s = record { met = billed rule load; run = record { start = start; fresh = o.fresh; leads = (start, refl, s) }; those = refl }
+  pub met_bill : (b : Book) (a : Answer) → Step start (settle 1 1 (bill rule load)) a b → MetCalls 3 1 (settle 1 1 (bill rule load) ∷ []) b
+  met_bill b a s = record { met = record { call = settle 1 1 (bill rule load); got = a } ∷ []; run = record { start = start; fresh = o.fresh; leads = (start, refl, s) }; those = refl }

@@ -1,10 +1,10 @@
 // Three equal loads, one line of -100 for the first party.
-ghost use Rattle.std.specs.Prelude.{◌≡◌, [], ◌∷◌, pos, negsuc, OnOk};
+ghost use Rattle.std.specs.Prelude.{◌≡◌, [], ◌∷◌, pos, negsuc};
 ghost use Rattle.numbers.specs.Checks.{Answered};
 ghost use Rattle.law.specs.Runs.{MetCalls};
 ghost use Rattle.law.specs.Steps.{settle as settling};
 ghost use Rattle.assess.specs.Refusals.{number_of, place_of};
-ghost use Rattle.book.specs.Books.{model};
+ghost use Rattle.book.specs.Books.{model, FitsIn};
 ghost use Rattle.desk.specs.Thirds.{bill, thirds_by, load_checks, thirds_checks};
 
 use crate::balances::balances;
@@ -17,14 +17,16 @@ use sharing::leftover::Leftover;
 use sharing::rule::SharingRule;
 use sharing::running::Running;
 
-// The three balances under any rule, and the book that they are read from.
+// The three balances under any rule, and the book that they are read from: where it is opened it met the settlement, accepted or
+// refused, and else it is as it was.
 pub fn thirds<R: SharingRule>(
     book: &mut Book,
     load: u32,
     rule: &R,
 ) -> Result<(i128, i128, i128), Refusal>
     ensures answer { Answered (thirds_checks book.old load) number_of place_of (λ v. v ≡ thirds_by (R.SharingRule.meaning rule.now) load) result }
-    ensures met { OnOk result (MetCalls 3 1 (settling 1 1 (bill (R.SharingRule.meaning rule.now) load) ∷ []) (model book.new)) }
+    ensures met { FitsIn 3 1 book.old → MetCalls 3 1 (settling 1 1 (bill (R.SharingRule.meaning rule.now) load) ∷ []) (model book.new) }
+    ensures few { (FitsIn 3 1 book.old → ⊥) → book.new ≡ book.old }
 {
     book.open(3, 1)?;
     let rows = [ListedRow {

@@ -24,8 +24,7 @@ returns-clause-answer g c =
     ((c.in_ok-open.ensures.fits, ((λ k h. range.0), (range.1, tt))), refl)
 
 pub returns-clause-met : goal.returns-clause-met
-returns-clause-met g c =
-    let rule = g.R.SharingRule.meaning c.args.rule.now in
-    let o = c.in_ok-open.ensures.opened in
-    let s = c.in_ok-settle.ensures.moves.step in
-    rw (asked_thirds _ rule c.args.load o _ s c.balances.result c.balances.ensures) (met_bill _ rule c.args.load o _ s)
+returns-clause-met g c fits = met_bill _ (g.R.SharingRule.meaning c.args.rule.now) c.args.load c.in_ok-open.ensures.opened _ _ c.in_ok-settle.ensures.moves.step
+
+pub returns-in_err-settle-clause-met : goal.returns-in_err-settle-clause-met
+returns-in_err-settle-clause-met g c fits = met_bill _ (g.R.SharingRule.meaning c.args.rule.now) c.args.load c.in_ok-open.ensures.opened _ _ c.in_err-settle.ensures.moves.step
