@@ -1,2 +1,3 @@
+mod SiteRows
 pub mod SameRows
 pub mod WorkedOut

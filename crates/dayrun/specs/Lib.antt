@@ -1,4 +1,5 @@
 pub mod Worked
+pub mod Reading
 pub mod Told
 pub mod Enrolments
 pub mod Changes

@@ -1,4 +1,6 @@
 // Does the records of a text, one line after another.
+ghost use Rattle.dayrun.specs.Reading.{IsRead};
+
 use crate::answer::Answer;
 use crate::blocks::Blocks;
 use crate::enrolled::Enrolled;
@@ -25,7 +27,9 @@ fn read_record<'t>(
     fields: Fields<'t>,
     scene: &Scene<'_>,
     numbers: &mut Vec<i64>,
-) -> Result<Record<'t>, Fault> {
+) -> Result<Record<'t>, Fault>
+    ensures { IsRead scene.now word.now fields.entry.rest.now result }
+{
     let name = Name::try_from(word)?;
     read(heap, name, fields, scene, numbers)
 }

@@ -1,7 +1,7 @@
 // The tables of rows, the parts of the next site, and the layers.
-ghost use Rattle.std.specs.Prelude.{◌≡◌, OnOk, OnErr};
+ghost use Rattle.std.specs.Prelude.{◌≡◌, ◌++◌, length, IfOk, OnOk, OnErr};
 ghost use Rattle.day.specs.declared.records.Change.TheVariants as changes;
-ghost use Rattle.dayrun.specs.Changes.{Makes, Leaves, Same, SameQuarter, SameEmergency, SameLosses, SameListed, SameLayers, Dropped};
+ghost use Rattle.dayrun.specs.Changes.{Makes, Leaves, AnsweredBy, SettingMade, parts_amount, parts_rows, Under, Same, SameQuarter, SameEmergency, SameLosses, SameListed, SameLayers, Dropped};
 ghost use Rattle.quarters.specs.Quarters.{slices_of};
 
 use crate::answer::Answer;
@@ -60,7 +60,7 @@ impl Layers {
 
     // Changes a setting.
     fn set(&mut self, setting: Setting) -> Result<(), SettingRefusal>
-        ensures state { self.new.state ≡ self.old.state }
+        ensures made { OnOk result (SettingMade setting self.old self.new) }
         ensures unchanged { OnErr result (self.new ≡ self.old) }
     {
         match setting {
@@ -145,7 +145,11 @@ impl Tables {
     }
 
     // What the next record is read under.
-    pub fn scene<'d>(&'d self, parties: &'d Roll, gathering: bool) -> Scene<'d> {
+    pub fn scene<'d>(&'d self, parties: &'d Roll, gathering: bool) -> Scene<'d>
+        ensures under { Under self.now result }
+        ensures parties { result.parties.now ≡ parties.now }
+        ensures gathering { result.gathering ≡ gathering }
+    {
         Scene {
             parties,
             slices: self.quarter.slices(),
@@ -201,8 +205,11 @@ impl Tables {
     }
 
     // Settles the parts of a site into rows behind the listed ones.
+    #[tactic(auto, using(crate::proofs::SiteRows::front))]
     fn list_site(&mut self, rule: RuleChoice) -> Result<SettledSite, NotDone>
         ensures others { SameQuarter self.old self.new × SameEmergency self.old self.new × SameLosses self.old self.new × SameLayers self.old self.new }
+        ensures listed { OnOk result (self.new.listed.items ≡ self.old.listed.items ++ parts_rows rule self.old.quarter self.old.parts) }
+        ensures told { IfOk result (λ site. (site.amount ≡ parts_amount self.old.quarter self.old.parts) × (site.rows ≡ length self.old.parts.units.items)) }
         ensures unchanged { OnErr result (SameListed self.old self.new) }
     {
         let nothing = ListedRow {
@@ -230,6 +237,8 @@ impl Tables {
     // Settles the parts of a site, which are dropped, refused or not.
     fn settle_site(&mut self, rule: RuleChoice) -> Result<SettledSite, NotDone>
         ensures others { SameQuarter self.old self.new × SameEmergency self.old self.new × SameLosses self.old self.new × SameLayers self.old self.new }
+        ensures listed { OnOk result (self.new.listed.items ≡ self.old.listed.items ++ parts_rows rule self.old.quarter self.old.parts) }
+        ensures told { IfOk result (λ site. (site.amount ≡ parts_amount self.old.quarter self.old.parts) × (site.rows ≡ length self.old.parts.units.items)) }
         ensures unchanged { OnErr result (SameListed self.old self.new) }
         ensures dropped { Dropped self.new.parts }
     {
@@ -241,6 +250,7 @@ impl Tables {
     // Makes a change.
     pub fn make(&mut self, change: Change) -> Result<Answer, NotDone>
         ensures made { OnOk result (Makes change self.old self.new) }
+        ensures answer { IfOk result (AnsweredBy change self.old) }
         ensures left { OnErr result (Leaves change self.old self.new) }
     {
         match change {
