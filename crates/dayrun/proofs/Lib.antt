@@ -1,3 +1,4 @@
-mod SiteRows
 pub mod SameRows
+pub mod SiteRows
+pub mod UnderLayers
 pub mod WorkedOut

@@ -1,3 +1,5 @@
+pub mod Calls
+pub mod Does
 pub mod Worked
 pub mod Reading
 pub mod Told

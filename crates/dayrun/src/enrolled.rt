@@ -1,5 +1,5 @@
 // What is gathered before the first call, and what the book is opened with.
-ghost use Rattle.std.specs.Prelude.{◌≡◌, ◌*◌, length, min, OnOk, OnErr};
+ghost use Rattle.std.specs.Prelude.{◌≡◌, ◌*◌, length, min, IfOk, OnOk, OnErr};
 ghost use Rattle.dayrun.specs.Enrolments.{Same, Enrols};
 
 use crate::notdone::Refused;
@@ -61,7 +61,9 @@ impl Enrolled {
     }
 
     // The directory of the curves, once the parties and the curves pass their checks. No curves at all are no refusal.
-    pub fn directory(&self, codes: &[PartyCode]) -> Result<Directory<'_, SubmittedCurve>, Refused> {
+    pub fn directory(&self, codes: &[PartyCode]) -> Result<Directory<'_, SubmittedCurve>, Refused>
+        ensures { IfOk result (λ directory. directory.records.now ≡ self.now.curves.items) }
+    {
         parties(codes)?;
         if self.curves.is_empty() {
             return Ok(Directory::empty());

@@ -1,4 +1,14 @@
 // The open book of a day, and the sources that its calls name.
+ghost use Rattle.std.specs.Prelude.{◌≡◌, IfOk, OnOk, None, length, take};
+ghost use Rattle.assess.specs.Refusals.{said};
+ghost use Rattle.book.specs.Books.{model, Moves, said_entry};
+ghost use Rattle.charges.specs.Listed.{listed_line};
+ghost use Rattle.dayrun.specs.Calls.{type_in, asked_over, asked, Posts, EnergyTold, DayEnergy};
+ghost use Rattle.law.specs.Runs.{Opened};
+ghost use Rattle.law.specs.Steps.{Step, void as voiding, look as asks_entry};
+ghost use Rattle.losses.specs.Lines.{loss_line};
+ghost use Rattle.quarters.specs.Quarters.{slices_of};
+
 use crate::enrolled::Enrolled;
 use crate::notdone::{NotDone, Refused};
 use crate::tables::Tables;
@@ -7,7 +17,7 @@ use assess::refusals::Refusal;
 use book::ledger::Book;
 use book::rows::{Entry, Slot, Told};
 use charges::energy::energy;
-use charges::interface::LineSource;
+use charges::interface::{BasisSource, LineSource};
 use charges::limits::MOST_LINES;
 use charges::listed::{Listed, ListedRow};
 use charges::rowsource::RowSource;
@@ -20,7 +30,9 @@ use losses::row::LossRow;
 use std::alloc::{AllocError, Global};
 
 // The operating-loss rows as a source.
-pub fn loss_source(tables: &Tables) -> RowSource<'_, LossRow, LossReader> {
+pub fn loss_source(tables: &Tables) -> RowSource<'_, LossRow, LossReader>
+    ensures { result.rows.now ≡ tables.now.losses.items }
+{
     RowSource {
         rows: tables.losses.as_slice(),
         reader: LossReader,
@@ -28,7 +40,9 @@ pub fn loss_source(tables: &Tables) -> RowSource<'_, LossRow, LossReader> {
 }
 
 // The listed rows as a source.
-pub fn listed_source(tables: &Tables) -> RowSource<'_, ListedRow, Listed> {
+pub fn listed_source(tables: &Tables) -> RowSource<'_, ListedRow, Listed>
+    ensures { result.rows.now ≡ tables.now.listed.items }
+{
     RowSource {
         rows: tables.listed.as_slice(),
         reader: Listed,
@@ -51,7 +65,9 @@ pub struct Posted {
 }
 
 // An interval as the book takes it.
-fn interval_of(slot: SlotName) -> usize {
+fn interval_of(slot: SlotName) -> usize
+    ensures { result ≡ slot.interval }
+{
     usize::try_from(slot.interval).unwrap_or(usize::MAX)
 }
 
@@ -74,7 +90,11 @@ impl<'d> Ledger<'d> {
         codes: &[PartyCode],
         slots: &'d mut [Slot],
         entries: &'d mut [Entry],
-    ) -> Ledger<'d> {
+    ) -> Ledger<'d>
+        ensures opened { result.shut ≡ None → Opened (length enrolled.now.parties) enrolled.now.intervals (model result.book) }
+        ensures curves { result.shut ≡ None → result.emergency.curves.records.now ≡ enrolled.now.curves.items }
+        ensures parties { result.parties ≡ length enrolled.now.parties }
+    {
         let mut book = Book::over(slots, entries);
         let parties = enrolled.parties.count();
         match enrolled.directory(codes) {
@@ -103,7 +123,10 @@ fn post<S: LineSource>(
     mode: Mode,
     settlement: &Settlement,
     source: &S,
-) -> Result<usize, Refusal> {
+) -> Result<usize, NotDone>
+    ensures posts { Posts book.old (asked_over mode settlement.now (S.LineSource.lines source.now)) result book.new }
+    ensures lines { IfOk result (λ lines. lines ≡ length (S.LineSource.lines source.now)) }
+{
     let Settlement {
         slot,
         rule,
@@ -120,62 +143,94 @@ fn post<S: LineSource>(
     Ok(source.count())
 }
 
+// The energy of a source.
+fn energy_of<S: BasisSource>(source: &S) -> Result<u64, NotDone>
+    ensures { EnergyTold (S.LineSource.lines source.now) (S.BasisSource.basis_of source.now) result }
+{
+    Ok(energy(source)?)
+}
+
 impl Ledger<'_> {
-    // Settles or restates over the table that the settlement names, under the layers.
+    // Settles or restates over the table that the settlement names, under the layers: how many lines.
+    fn put(
+        &mut self,
+        heap: Global,
+        mode: Mode,
+        settlement: &Settlement,
+        tables: &Tables,
+    ) -> Result<usize, NotDone>
+        ensures posts { Posts self.old.book (asked mode settlement.now tables.now self.old.emergency.curves.records.now) result self.new.book }
+    {
+        let layers = &tables.layers;
+        match settlement.source {
+            SourceName::Emergency => {
+                self.work_out(heap, tables)?;
+                let source = layers.over(self.emergency.source());
+                post(&mut self.book, mode, settlement, &source)
+            }
+            SourceName::Loss => {
+                let source = layers.over(loss_source(tables));
+                post(&mut self.book, mode, settlement, &source)
+            }
+            SourceName::Listed => {
+                let source = layers.over(listed_source(tables));
+                post(&mut self.book, mode, settlement, &source)
+            }
+        }
+    }
+
+    // Settles or restates, and tells what the slot then holds.
     pub fn settle(
         &mut self,
         heap: Global,
         mode: Mode,
         settlement: &Settlement,
         tables: &Tables,
-    ) -> Result<Posted, NotDone> {
-        let layers = &tables.layers;
-        let lines = match settlement.source {
-            SourceName::Emergency => {
-                self.work_out(heap, tables)?;
-                let source = layers.over(self.emergency.source());
-                post(&mut self.book, mode, settlement, &source)?
-            }
-            SourceName::Loss => {
-                let source = layers.over(loss_source(tables));
-                post(&mut self.book, mode, settlement, &source)?
-            }
-            SourceName::Listed => {
-                let source = layers.over(listed_source(tables));
-                post(&mut self.book, mode, settlement, &source)?
-            }
-        };
-        Ok(self.posted(settlement.slot, lines)?)
+    ) -> Result<Posted, NotDone>
+        ensures posts { Posts self.old.book (asked mode settlement.now tables.now self.old.emergency.curves.records.now) result self.new.book }
+    {
+        let lines = self.put(heap, mode, settlement, tables)?;
+        Ok(self.posted(settlement.slot, lines))
     }
 
     // Works the emergency rows out: of too many, one more than a call takes, since it is refused for their number.
-    fn work_out(&mut self, heap: Global, tables: &Tables) -> Result<(), AllocError> {
+    #[tactic(auto, using(crate::proofs::WorkedOut::first_rows))]
+    fn work_out(&mut self, heap: Global, tables: &Tables) -> Result<(), AllocError>
+        ensures book { self.new.book ≡ self.old.book }
+        ensures curves { self.new.emergency.curves ≡ self.old.emergency.curves }
+        ensures slices { OnOk result (slices_of self.new.emergency.quarter ≡ slices_of tables.now.emergency_quarter) }
+        ensures rows { OnOk result (self.new.emergency.rows.items ≡ take 257 tables.now.emergency.items) }
+    {
         let rows = tables.emergency.as_slice();
         let taken = &rows[..rows.len().min(MOST_LINES + 1)];
         self.emergency.renew(heap, &tables.emergency_quarter, taken)
     }
 
-    // What stands in a slot of so many lines, added up over the parties.
-    fn posted(&self, slot: SlotName, lines: usize) -> Result<Posted, Refusal> {
+    // What stands in a slot of so many lines, added up over the parties. Each of them has an entry there, so that none is refused.
+    fn posted(&self, slot: SlotName, lines: usize) -> Posted {
         let mut posted = Posted {
             lines,
             paid: 0,
             load: 0,
         };
         for party in 1..=self.parties {
-            let entry = self.entry(slot, party)?;
+            let entry = self.entry(slot, party).unwrap_or_default();
             posted.paid = posted.paid.saturating_add(i128::from(entry.paid));
             posted.load = posted.load.saturating_add(u64::from(entry.load));
         }
-        Ok(posted)
+        posted
     }
 
-    pub fn void(&mut self, slot: SlotName) -> Result<(), Refusal> {
+    pub fn void(&mut self, slot: SlotName) -> Result<(), Refusal>
+        ensures { Moves self.old.book (voiding (type_in slot) slot.interval) (said result) self.new.book }
+    {
         self.book
             .void(u8::held(slot.charge_type), interval_of(slot))
     }
 
-    pub fn entry(&self, slot: SlotName, party: usize) -> Result<Told, Refusal> {
+    pub fn entry(&self, slot: SlotName, party: usize) -> Result<Told, Refusal>
+        ensures { Step (model self.now.book) (asks_entry (type_in slot) slot.interval party) (said_entry result) (model self.now.book) }
+    {
         self.book
             .entry(u8::held(slot.charge_type), interval_of(slot), party)
     }
@@ -186,15 +241,25 @@ impl Ledger<'_> {
         heap: Global,
         name: SourceName,
         tables: &Tables,
-    ) -> Result<u64, NotDone> {
+    ) -> Result<u64, NotDone>
+        ensures energy { DayEnergy name tables.now self.old.emergency.curves.records.now result }
+        ensures book { self.new.book ≡ self.old.book }
+    {
         let layers = &tables.layers;
-        Ok(match name {
+        match name {
             SourceName::Emergency => {
                 self.work_out(heap, tables)?;
-                energy(&layers.over(self.emergency.source()))?
+                let source = layers.over(self.emergency.source());
+                energy_of(&source)
             }
-            SourceName::Loss => energy(&layers.over(loss_source(tables)))?,
-            SourceName::Listed => energy(&layers.over(listed_source(tables)))?,
-        })
+            SourceName::Loss => {
+                let source = layers.over(loss_source(tables));
+                energy_of(&source)
+            }
+            SourceName::Listed => {
+                let source = layers.over(listed_source(tables));
+                energy_of(&source)
+            }
+        }
     }
 }

@@ -1,5 +1,9 @@
 // Does the records of a text, one line after another.
+ghost use Rattle.std.specs.Prelude.{◌≡◌};
+ghost use Rattle.dayrun.specs.Calls.{asked, type_in};
+ghost use Rattle.dayrun.specs.Does.{DoesOr, Settles, Voids};
 ghost use Rattle.dayrun.specs.Reading.{IsRead};
+ghost use Rattle.law.specs.Steps.{void as voiding};
 
 use crate::answer::Answer;
 use crate::blocks::Blocks;
@@ -14,7 +18,7 @@ use crate::words::Words;
 use book::rows::{Entry, Slot};
 use day::names::Name;
 use day::reading::{Scene, read};
-use day::records::{Call, PartyName, Record, Settlement};
+use day::records::{Call, PartyName, Record, Settlement, SlotName};
 use std::alloc::Global;
 use std::io;
 use std::io::Read;
@@ -35,7 +39,9 @@ fn read_record<'t>(
 }
 
 // The number of a party as the book takes it.
-fn party_number(party: &PartyName<'_>) -> usize {
+fn party_number(party: &PartyName<'_>) -> usize
+    ensures { result ≡ party.now.number }
+{
     usize::try_from(party.number).unwrap_or(usize::MAX)
 }
 
@@ -47,10 +53,21 @@ fn settle<R: Report>(
     ledger: &mut Ledger<'_>,
     tables: &Tables,
     report: &mut R,
-) -> Result<Answer, NotDone> {
+) -> Result<Answer, NotDone>
+    ensures { Settles ledger.old.book (asked mode settlement.now tables.now ledger.old.emergency.curves.records.now) result ledger.new.book }
+{
     let posted = ledger.settle(heap, mode, settlement, tables)?;
     report.settled(settlement, posted, ledger, tables)?;
     Ok(Answer::Posted(posted))
+}
+
+// Voids; an accepted void goes to the report.
+fn void<R: Report>(slot: SlotName, ledger: &mut Ledger<'_>, report: &mut R) -> Result<Answer, NotDone>
+    ensures { Voids ledger.old.book (voiding (type_in slot) slot.interval) result ledger.new.book }
+{
+    ledger.void(slot)?;
+    report.voided(slot)?;
+    Ok(Answer::Done)
 }
 
 // Does a call; where the opening was refused, so is every call.
@@ -60,7 +77,9 @@ fn call<R: Report>(
     ledger: &mut Ledger<'_>,
     tables: &Tables,
     report: &mut R,
-) -> Result<Answer, NotDone> {
+) -> Result<Answer, NotDone>
+    ensures { DoesOr ledger.old.shut call.now tables.now ledger.old result ledger.new }
+{
     if let Some(refused) = ledger.shut {
         return Err(NotDone::Refused(refused));
     }
@@ -74,11 +93,7 @@ fn call<R: Report>(
             tables,
             report,
         ),
-        Call::Void(slot) => {
-            ledger.void(*slot)?;
-            report.voided(*slot)?;
-            Ok(Answer::Done)
-        }
+        Call::Void(slot) => void(*slot, ledger, report),
         Call::Balance(party) => Ok(Answer::Balance(ledger.book.balance(party_number(party))?)),
         Call::Entry(slot, party) => Ok(Answer::Entry(ledger.entry(*slot, party_number(party))?)),
         Call::Energy(source) => Ok(Answer::Energy(ledger.energy(heap, *source, tables)?)),
