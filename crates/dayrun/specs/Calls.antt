@@ -20,13 +20,12 @@ use Rattle.day.specs.declared.records.SourceName.{SourceName}
 use Rattle.day.specs.declared.records.SourceName.TheVariants as sources
 use Rattle.dayrun.specs.declared.ledger.Mode.{Mode}
 use Rattle.dayrun.specs.declared.ledger.Mode.TheVariants as modes
-use Rattle.dayrun.specs.declared.ledger.Posted.{Posted}
 use Rattle.dayrun.specs.declared.notdone.NotDone.{NotDone}
 use Rattle.dayrun.specs.declared.notdone.NotDone.TheVariants.{Malformed, Refused, Memory}
 use Rattle.dayrun.specs.declared.tables.Layers.{Layers}
 use Rattle.dayrun.specs.declared.tables.Tables.{Tables}
 use Rattle.dayrun.specs.Told.{told, told_of}
-use Rattle.law.specs.Steps.{Call, Answer, accepted, refused, settle, restate}
+use Rattle.law.specs.Steps.{Call, accepted, refused, settle, restate}
 use Rattle.losses.specs.Lines.{loss_line, loss_basis}
 use Rattle.quarters.specs.Quarters.{slices_of}
 use Rattle.readers.specs.Emergency.{emergency_line, emergency_basis}

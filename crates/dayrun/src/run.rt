@@ -62,7 +62,11 @@ fn settle<R: Report>(
 }
 
 // Voids; an accepted void goes to the report.
-fn void<R: Report>(slot: SlotName, ledger: &mut Ledger<'_>, report: &mut R) -> Result<Answer, NotDone>
+fn void<R: Report>(
+    slot: SlotName,
+    ledger: &mut Ledger<'_>,
+    report: &mut R,
+) -> Result<Answer, NotDone>
     ensures { Voids ledger.old.book (voiding (type_in slot) slot.interval) result ledger.new.book }
 {
     ledger.void(slot)?;
