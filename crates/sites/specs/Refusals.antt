@@ -13,8 +13,12 @@ use Rattle.sites.specs.declared.site.SiteUnit.{SiteUnit}
 use Rattle.sites.specs.Sites.{readings}
 
 -- 1 to 8 buses, and 1 to 8 units
+abbrev pub Counted : List Bus → List SiteUnit → Type 0
+Counted buses units = (1 ≤ length buses) × (length buses ≤ 8) × (1 ≤ length units) × (length units ≤ 8)
+
+-- those of a site
 abbrev pub GoodCounts : Site → Type 0
-GoodCounts site = (1 ≤ length site.buses.now) × (length site.buses.now ≤ 8) × (1 ≤ length site.units.now) × (length site.units.now ≤ 8)
+GoodCounts site = Counted site.buses.now site.units.now
 
 -- how many slices the site's quarter hour has
 abbrev pub slice_count : Site → ℕ
@@ -40,19 +44,27 @@ unit_strays unit = (nat_lt unit.resource 1 || nat_lt 9999 unit.resource) || nat_
 abbrev pub units_stray : List SiteUnit → Bool
 units_stray units = list_any unit_strays units
 
--- a value or a resource of the site is outside its limits
-abbrev pub site_strays : Site → Bool
-site_strays site =
-    (buses_stray (slice_count site) site.buses.now || adders_stray (slice_count site) site.adders.now) || units_stray site.units.now
+-- a value or a resource is outside its limits, over m slices
+abbrev pub values_stray : ℕ → Adders → List Bus → List SiteUnit → Bool
+values_stray m adders buses units = (buses_stray m buses || adders_stray m adders) || units_stray units
 
--- the checks of a site that is settled into a list of so many rows, in order: the counts, the values and resources, the sum of the readings, the room
-abbrev pub checks : Site → ℕ → List Check
-checks site room =
-    whole 51 (GoodCounts site)
-    ∷ whole 52 (site_strays site ≡ false)
-    ∷ whole 53 (0 < sum (readings site.units.now))
-    ∷ whole 54 (length site.units.now ≤ room)
+-- one of the site is
+abbrev pub site_strays : Site → Bool
+site_strays site = values_stray (slice_count site) site.adders.now site.buses.now site.units.now
+
+-- the checks of a site of these parts, over m slices, that is settled into a list of so many rows, in order: the counts, the values and
+-- resources, the sum of the readings, the room
+abbrev pub parts_checks : ℕ → Adders → List Bus → List SiteUnit → ℕ → List Check
+parts_checks m adders buses units room =
+    whole 51 (Counted buses units)
+    ∷ whole 52 (values_stray m adders buses units ≡ false)
+    ∷ whole 53 (0 < sum (readings units))
+    ∷ whole 54 (length units ≤ room)
     ∷ []
+
+-- those of a site
+abbrev pub checks : Site → ℕ → List Check
+checks site room = parts_checks (slice_count site) site.adders.now site.buses.now site.units.now room
 
 -- a refusal's number
 abbrev pub number_of : SiteRefusal → ℕ
