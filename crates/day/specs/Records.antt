@@ -193,17 +193,18 @@ pub record EndSaid (s : List ℕ) (end : LossEnd) : Type 0 where
   pub offer_at_cap : field 8 mark s ≡ Some end.offer_at_cap
   pub above_lsl : field 9 mark s ≡ Some end.above_lsl
 
--- a loss row
+-- what a loss row holds from its cost on
+abbrev pub end_of : LossRow → LossEnd
+end_of row = record { kind = row.kind; cap = row.cap; offer_at_cap = row.offer_at_cap; above_lsl = row.above_lsl }
+
+-- a loss row: five fields, and the nine from its cost on
 pub record LossSaid (scene : Scene) (s : List ℕ) (row : LossRow) : Type 0 where
   pub party : field 1 (party_byte scene.parties.now) s ≡ Some row.party
   pub known : field 2 costing s ≡ Some (costing_of row.kind)
   pub resource : field 3 short s ≡ Some row.resource
   pub spp : field 4 signed s ≡ Some row.spp
   pub generation : field 5 unsigned s ≡ Some row.generation
-  pub cost : CostSaid (behind 5 s) row.kind
-  pub cap : field 12 signed s ≡ Some row.cap
-  pub offer_at_cap : field 13 mark s ≡ Some row.offer_at_cap
-  pub above_lsl : field 14 mark s ≡ Some row.above_lsl
+  pub end : EndSaid (behind 5 s) (end_of row)
 
 -- a listed row
 pub record ListedSaid (scene : Scene) (s : List ℕ) (row : ListedRow) : Type 0 where

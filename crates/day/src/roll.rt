@@ -2,6 +2,7 @@
 ghost use Rattle.std.specs.Prelude.{◌≡◌, ◌-◌, ◌<◌, ◌↔◌, ◌⊎◌, [], ◌∷◌, ◌++◌, length, slice_get, is_ok, if◌then◌else◌, IfOk, IfSome, IsNone, IsTrue, Some, List, map, ℕ};
 ghost use Rattle.day.specs.Texts.{party};
 ghost use Rattle.day.specs.Parties.{number_of, Agrees, HasCode, GoesBy};
+ghost use Rattle.directory.specs.Codes.{meaning_of, sense_of};
 
 use directory::parties::PartyCode;
 use std::alloc::{AllocError, Global};
@@ -103,7 +104,7 @@ impl Roll {
 
     // The codes for a directory.
     pub fn codes(&self, heap: Global) -> Result<Vec<PartyCode>, AllocError>
-        ensures { IfOk result (λ codes. length codes.items ≡ length self.now) }
+        ensures { IfOk result (λ codes. map sense_of codes.items ≡ map meaning_of self.now) }
     {
         self.codes
             .iter()
