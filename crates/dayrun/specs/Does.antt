@@ -1,42 +1,43 @@
 -- What a call of a day does.
-use Rattle.std.specs.Prelude.{◌≡◌, ℕ, ℤ, Some, None, Ok, Err, Option, Result}
+use Rattle.std.specs.Prelude.{◌≡◌, ℕ, ℤ, List, Some, None, Ok, Err, Option, Result}
 use Rattle.assess.specs.declared.refusals.Refusal.{Refusal}
 use Rattle.assess.specs.Refusals.{number_of, place_of, carries}
 use Rattle.book.specs.declared.ledger.Book.{Book}
 use Rattle.book.specs.declared.rows.Told.{Told}
 use Rattle.book.specs.Books.{model, said_entry, Moves}
+use Rattle.curves.specs.declared.points.SubmittedCurve.{SubmittedCurve}
 use Rattle.day.specs.declared.records.Call.{Call}
 use Rattle.day.specs.declared.records.Call.TheVariants as calls
+use Rattle.day.specs.declared.records.Settlement.{Settlement}
 use Rattle.dayrun.specs.declared.answer.Answer.{Answer}
 use Rattle.dayrun.specs.declared.answer.Answer.TheVariants as answers
 use Rattle.dayrun.specs.declared.ledger.Ledger.{Ledger}
+use Rattle.dayrun.specs.declared.ledger.Mode.{Mode}
 use Rattle.dayrun.specs.declared.ledger.Mode.TheVariants as modes
 use Rattle.dayrun.specs.declared.ledger.Posted.{Posted}
 use Rattle.dayrun.specs.declared.notdone.Refused.{Refused as Refusing}
 use Rattle.dayrun.specs.declared.notdone.NotDone.{NotDone}
 use Rattle.dayrun.specs.declared.notdone.NotDone.TheVariants.{Malformed, Refused, Memory}
 use Rattle.dayrun.specs.declared.tables.Tables.{Tables}
-use Rattle.dayrun.specs.Calls.{asked, type_in, DayEnergy}
+use Rattle.dayrun.specs.Calls.{asked, settled_lines, posted_over, type_in, DayEnergy, NotTaken}
 use Rattle.dayrun.specs.Told.{told_of}
 use Rattle.law.specs.Steps as law
 
--- The book refused the call, which is told; where memory was short the run ends, and nothing is promised.
-abbrev pub Refuses : Book → law.Call → NotDone → Book → Type 0
-Refuses b call (Refused r) c = (refusal : Refusal) × (r ≡ told_of refusal) × Moves b call (law.refused (number_of refusal) (place_of refusal) (carries refusal)) c
-Refuses b call (Malformed k) c = ⊥
-Refuses b call Memory c = Unit {0}
+-- The book took the settlement, whose figures are answered; or it refused it. Where memory was short the run ends, and nothing is promised.
+abbrev pub Settles : Book → law.Call → Posted → Result Answer NotDone → Book → Type 0
+Settles b call figures (Ok a) c = (a ≡ answers.Posted figures) × Moves b call law.accepted c
+Settles b call figures (Err e) c = NotTaken (Unit {0}) b call e c
 
--- The book took the settlement, whose figures are answered; or it refused it.
-abbrev pub Settles : Book → law.Call → Result Answer NotDone → Book → Type 0
-Settles b call (Ok a) c = (p : Posted) × (a ≡ answers.Posted p) × Moves b call law.accepted c
-Settles b call (Err e) c = Refuses b call e c
+-- that of a record over the day's tables
+abbrev pub DaySettles : Mode → Settlement → Tables → List SubmittedCurve → Book → Result Answer NotDone → Book → Type 0
+DaySettles mode settlement tables curves b result c = Settles b (asked mode settlement tables curves) (posted_over settlement (settled_lines settlement tables curves)) result c
 
--- The book took the void, and that is answered; or it refused it.
+-- The book took the void, and that is answered; or it refused it. The same of memory.
 abbrev pub Voids : Book → law.Call → Result Answer NotDone → Book → Type 0
 Voids b call (Ok a) c = (a ≡ answers.Done) × Moves b call law.accepted c
-Voids b call (Err e) c = Refuses b call e c
+Voids b call (Err e) c = NotTaken (Unit {0}) b call e c
 
--- The book answers a question, which leaves it as it was, or refuses it.
+-- The book refuses a question, which is told and leaves it as it was; a question needs no memory.
 abbrev pub NotSaid : Book → law.Call → NotDone → Type 0
 NotSaid b call (Refused r) = (refusal : Refusal) × (r ≡ told_of refusal) × law.Step (model b) call (law.refused (number_of refusal) (place_of refusal) (carries refusal)) (model b)
 NotSaid b call (Malformed k) = ⊥
@@ -59,8 +60,8 @@ SaysEnergy Told (Err e) = Told (Err e)
 
 -- what a call does on the open book, over the day's tables
 abbrev pub Does : Call → Tables → Ledger → Result Answer NotDone → Ledger → Type 0
-Does (calls.Settle settlement) tables old result new = Settles old.book (asked modes.Settle settlement tables old.emergency.curves.records.now) result new.book
-Does (calls.Restate settlement) tables old result new = Settles old.book (asked modes.Restate settlement tables old.emergency.curves.records.now) result new.book
+Does (calls.Settle settlement) tables old result new = DaySettles modes.Settle settlement tables old.emergency.curves.records.now old.book result new.book
+Does (calls.Restate settlement) tables old result new = DaySettles modes.Restate settlement tables old.emergency.curves.records.now old.book result new.book
 Does (calls.Void slot) tables old result new = Voids old.book (law.void (type_in slot) slot.interval) result new.book
 Does (calls.Balance party) tables old result new = SaysBalance old.book party.number result × (new.book ≡ old.book)
 Does (calls.Entry slot party) tables old result new = SaysEntry old.book (law.look (type_in slot) slot.interval party.number) result × (new.book ≡ old.book)

@@ -13,3 +13,9 @@ abbrev pub Enrols : Enrolment → Enrolled → Enrolled → Type 0
 Enrols (Party code) old new = (new.parties ≡ old.parties ++ code.now ∷ []) × (new.intervals ≡ old.intervals) × (new.curves.items ≡ old.curves.items)
 Enrols (Intervals count) old new = (new.parties ≡ old.parties) × (new.intervals ≡ count) × (new.curves.items ≡ old.curves.items)
 Enrols (Curve row) old new = (new.parties ≡ old.parties) × (new.intervals ≡ old.intervals) × (new.curves.items ≡ old.curves.items ++ row ∷ [])
+
+-- a party or a curve more needs memory, and so may be told that it is short
+abbrev pub Grows : Enrolment → Type 0
+Grows (Party code) = Unit {0}
+Grows (Intervals count) = ⊥
+Grows (Curve row) = Unit {0}

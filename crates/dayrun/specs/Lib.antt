@@ -5,3 +5,4 @@ pub mod Reading
 pub mod Told
 pub mod Enrolments
 pub mod Changes
+pub mod Verdicts

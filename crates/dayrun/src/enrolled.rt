@@ -1,13 +1,15 @@
 // What is gathered before the first call, and what the book is opened with.
-ghost use Rattle.std.specs.Prelude.{◌≡◌, ◌*◌, length, min, IfOk, OnOk, OnErr};
-ghost use Rattle.dayrun.specs.Enrolments.{Same, Enrols};
+ghost use Rattle.std.specs.Prelude.{◌≡◌, ◌*◌, length, min, OnOk, OnErr};
+ghost use Rattle.dayrun.specs.Enrolments.{Same, Enrols, Grows};
+ghost use Rattle.dayrun.specs.Verdicts.{curve_checks, directory_checks};
+ghost use Rattle.directory.specs.Refusals.{number_of, place_of};
+ghost use Rattle.numbers.specs.Checks.{Answered};
 
-use crate::notdone::Refused;
 use curves::keys::submitted_curves;
 use curves::points::SubmittedCurve;
 use day::records::Enrolment;
 use day::roll::Roll;
-use directory::lookup::Directory;
+use directory::lookup::{Directory, DirectoryRefusal};
 use directory::parties::{PartyCode, parties};
 use std::alloc::{AllocError, Global};
 
@@ -30,7 +32,7 @@ impl Enrolled {
     // Does a record; one for which there is no memory changes nothing.
     pub fn add(&mut self, heap: Global, enrolment: Enrolment<'_>) -> Result<(), AllocError>
         ensures done { OnOk result (Enrols enrolment.entry self.old self.new) }
-        ensures unchanged { OnErr result (Same self.old self.new) }
+        ensures unchanged { OnErr result (Grows enrolment.entry × Same self.old self.new) }
     {
         match enrolment {
             Enrolment::Party(code) => self.parties.enrol(heap, code)?,
@@ -60,14 +62,25 @@ impl Enrolled {
         self.slots() * self.parties.count().min(64)
     }
 
-    // The directory of the curves, once the parties and the curves pass their checks. No curves at all are no refusal.
-    pub fn directory(&self, codes: &[PartyCode]) -> Result<Directory<'_, SubmittedCurve>, Refused>
-        ensures { IfOk result (λ directory. directory.records.now ≡ self.now.curves.items) }
+    // The directory of the curves, if they pass their checks. No curves at all are no refusal.
+    fn curve_directory(&self) -> Result<Directory<'_, SubmittedCurve>, DirectoryRefusal>
+        ensures { Answered (curve_checks self.now.curves.items) number_of place_of (λ directory. directory.records.now ≡ self.now.curves.items) result }
     {
-        parties(codes)?;
         if self.curves.is_empty() {
             return Ok(Directory::empty());
         }
-        Ok(submitted_curves(self.curves.as_slice())?)
+        submitted_curves(self.curves.as_slice())
+    }
+
+    // The same, once the parties' codes pass theirs.
+    #[tactic(auto, using(crate::proofs::Verdicts::passed_both, crate::proofs::Verdicts::refused_first, crate::proofs::Verdicts::refused_next))]
+    pub fn directory(
+        &self,
+        codes: &[PartyCode],
+    ) -> Result<Directory<'_, SubmittedCurve>, DirectoryRefusal>
+        ensures { Answered (directory_checks codes.now self.now.curves.items) number_of place_of (λ directory. directory.records.now ≡ self.now.curves.items) result }
+    {
+        parties(codes)?;
+        self.curve_directory()
     }
 }

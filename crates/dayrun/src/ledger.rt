@@ -1,18 +1,21 @@
 // The open book of a day, and the sources that its calls name.
-ghost use Rattle.std.specs.Prelude.{◌≡◌, IfOk, OnOk, None, length, take};
+ghost use Rattle.std.specs.Prelude.{◌≡◌, IfOk, OnOk, None, length, pos, take};
 ghost use Rattle.assess.specs.Refusals.{said};
 ghost use Rattle.book.specs.Books.{model, Moves, said_entry};
 ghost use Rattle.charges.specs.Listed.{listed_line};
-ghost use Rattle.dayrun.specs.Calls.{type_in, asked_over, asked, Posts, EnergyTold, DayEnergy};
+ghost use Rattle.dayrun.specs.Calls.{type_in, asked_over, asked, settled_lines, posted_over, told_at, paid_in, load_in, NeedsMemory, Posts, EnergyTold, DayEnergy};
+ghost use Rattle.dayrun.specs.Verdicts.{opening_checks, OpenedOr};
 ghost use Rattle.law.specs.Runs.{Opened};
 ghost use Rattle.law.specs.Steps.{Step, void as voiding, look as asks_entry};
 ghost use Rattle.losses.specs.Lines.{loss_line};
+ghost use Rattle.numbers.specs.Checks.{Unambiguous};
 ghost use Rattle.quarters.specs.Quarters.{slices_of};
 
 use crate::enrolled::Enrolled;
 use crate::notdone::{NotDone, Refused};
 use crate::tables::Tables;
 use crate::worked::WorkedRows;
+use assess::limits::MOST_PARTIES;
 use assess::refusals::Refusal;
 use book::ledger::Book;
 use book::rows::{Entry, Slot, Told};
@@ -76,14 +79,13 @@ pub struct Ledger<'d> {
     pub book: Book<'d>,
     // the emergency rows that were worked out last, and the curves
     pub emergency: WorkedRows<'d>,
-    // how many parties there are
-    pub parties: usize,
     // why the opening was refused, if it was
     pub shut: Option<Refused>,
 }
 
 impl<'d> Ledger<'d> {
     // Opens the book of a day over its tables of slots and entries.
+    #[tactic(auto, using(numbers::proofs::Checks::one_answer))]
     pub fn open(
         heap: Global,
         enrolled: &'d Enrolled,
@@ -93,25 +95,23 @@ impl<'d> Ledger<'d> {
     ) -> Ledger<'d>
         ensures opened { result.shut ≡ None → Opened (length enrolled.now.parties) enrolled.now.intervals (model result.book) }
         ensures curves { result.shut ≡ None → result.emergency.curves.records.now ≡ enrolled.now.curves.items }
-        ensures parties { result.parties ≡ length enrolled.now.parties }
+        ensures verdict { OpenedOr (opening_checks codes.now enrolled.now.curves.items (length enrolled.now.parties) enrolled.now.intervals (length slots.old) (length entries.old)) result.shut }
+        ensures once { Unambiguous (opening_checks codes.now enrolled.now.curves.items (length enrolled.now.parties) enrolled.now.intervals (length slots.old) (length entries.old)) }
     {
         let mut book = Book::over(slots, entries);
-        let parties = enrolled.parties.count();
         match enrolled.directory(codes) {
             Ok(curves) => {
-                let opened = book.open(parties, enrolled.intervals());
+                let opened = book.open(enrolled.parties.count(), enrolled.intervals());
                 Ledger {
                     book,
                     emergency: WorkedRows::none(heap, curves),
-                    parties,
                     shut: opened.err().map(Refused::from),
                 }
             }
-            Err(refused) => Ledger {
+            Err(refusal) => Ledger {
                 book,
                 emergency: WorkedRows::none(heap, Directory::empty()),
-                parties,
-                shut: Some(refused),
+                shut: Some(Refused::from(refusal)),
             },
         }
     }
@@ -124,7 +124,7 @@ fn post<S: LineSource>(
     settlement: &Settlement,
     source: &S,
 ) -> Result<usize, NotDone>
-    ensures posts { Posts book.old (asked_over mode settlement.now (S.LineSource.lines source.now)) result book.new }
+    ensures posts { Posts ⊥ book.old (asked_over mode settlement.now (S.LineSource.lines source.now)) result book.new }
     ensures lines { IfOk result (λ lines. lines ≡ length (S.LineSource.lines source.now)) }
 {
     let Settlement {
@@ -145,7 +145,7 @@ fn post<S: LineSource>(
 
 // The energy of a source.
 fn energy_of<S: BasisSource>(source: &S) -> Result<u64, NotDone>
-    ensures { EnergyTold (S.LineSource.lines source.now) (S.BasisSource.basis_of source.now) result }
+    ensures { EnergyTold ⊥ (S.LineSource.lines source.now) (S.BasisSource.basis_of source.now) result }
 {
     Ok(energy(source)?)
 }
@@ -159,7 +159,8 @@ impl Ledger<'_> {
         settlement: &Settlement,
         tables: &Tables,
     ) -> Result<usize, NotDone>
-        ensures posts { Posts self.old.book (asked mode settlement.now tables.now self.old.emergency.curves.records.now) result self.new.book }
+        ensures posts { Posts (NeedsMemory settlement.now.source) self.old.book (asked mode settlement.now tables.now self.old.emergency.curves.records.now) result self.new.book }
+        ensures lines { IfOk result (λ lines. lines ≡ length (settled_lines settlement.now tables.now self.old.emergency.curves.records.now)) }
     {
         let layers = &tables.layers;
         match settlement.source {
@@ -187,7 +188,8 @@ impl Ledger<'_> {
         settlement: &Settlement,
         tables: &Tables,
     ) -> Result<Posted, NotDone>
-        ensures posts { Posts self.old.book (asked mode settlement.now tables.now self.old.emergency.curves.records.now) result self.new.book }
+        ensures posts { Posts (NeedsMemory settlement.now.source) self.old.book (asked mode settlement.now tables.now self.old.emergency.curves.records.now) result self.new.book }
+        ensures figures { IfOk result (λ posted. posted ≡ posted_over settlement.now (settled_lines settlement.now tables.now self.old.emergency.curves.records.now)) }
     {
         let lines = self.put(heap, mode, settlement, tables)?;
         Ok(self.posted(settlement.slot, lines))
@@ -206,19 +208,28 @@ impl Ledger<'_> {
         self.emergency.renew(heap, &tables.emergency_quarter, taken)
     }
 
-    // What stands in a slot of so many lines, added up over the parties. Each of them has an entry there, so that none is refused.
-    fn posted(&self, slot: SlotName, lines: usize) -> Posted {
-        let mut posted = Posted {
-            lines,
-            paid: 0,
-            load: 0,
-        };
-        for party in 1..=self.parties {
-            let entry = self.entry(slot, party).unwrap_or_default();
-            posted.paid = posted.paid.saturating_add(i128::from(entry.paid));
-            posted.load = posted.load.saturating_add(u64::from(entry.load));
+    // What is kept for a party in a slot; zeros where there is no such party.
+    fn kept(&self, slot: SlotName, party: usize) -> Told
+        ensures load { result.load ≡ (told_at (model self.now.book) (type_in slot) slot.interval party).load }
+        ensures paid { result.paid ≡ (told_at (model self.now.book) (type_in slot) slot.interval party).paid }
+    {
+        self.entry(slot, party).unwrap_or_default()
+    }
+
+    // What stands in a slot of so many lines, added up over as many parties as a book may have.
+    fn posted(&self, slot: SlotName, lines: usize) -> Posted
+        ensures lines { result.lines ≡ lines }
+        ensures paid { result.paid ≡ paid_in (model self.now.book) (type_in slot) slot.interval }
+        ensures load { pos result.load ≡ load_in (model self.now.book) (type_in slot) slot.interval }
+    {
+        let mut paid = 0;
+        let mut load = 0;
+        for party in 1..=MOST_PARTIES {
+            let kept = self.kept(slot, party);
+            paid += i128::from(kept.paid);
+            load += u64::from(kept.load);
         }
-        posted
+        Posted { lines, paid, load }
     }
 
     pub fn void(&mut self, slot: SlotName) -> Result<(), Refusal>

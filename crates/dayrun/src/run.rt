@@ -1,7 +1,7 @@
 // Does the records of a text, one line after another.
 ghost use Rattle.std.specs.Prelude.{◌≡◌};
-ghost use Rattle.dayrun.specs.Calls.{asked, type_in};
-ghost use Rattle.dayrun.specs.Does.{DoesOr, Settles, Voids};
+ghost use Rattle.dayrun.specs.Calls.{type_in};
+ghost use Rattle.dayrun.specs.Does.{DoesOr, DaySettles, Voids};
 ghost use Rattle.dayrun.specs.Reading.{IsRead};
 ghost use Rattle.law.specs.Steps.{void as voiding};
 
@@ -54,7 +54,7 @@ fn settle<R: Report>(
     tables: &Tables,
     report: &mut R,
 ) -> Result<Answer, NotDone>
-    ensures { Settles ledger.old.book (asked mode settlement.now tables.now ledger.old.emergency.curves.records.now) result ledger.new.book }
+    ensures { DaySettles mode settlement.now tables.now ledger.old.emergency.curves.records.now ledger.old.book result ledger.new.book }
 {
     let posted = ledger.settle(heap, mode, settlement, tables)?;
     report.settled(settlement, posted, ledger, tables)?;

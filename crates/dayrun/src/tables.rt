@@ -1,7 +1,10 @@
 // The tables of rows, the parts of the next site, and the layers.
 ghost use Rattle.std.specs.Prelude.{◌≡◌, ◌++◌, length, IfOk, OnOk, OnErr};
+ghost use Rattle.charges.specs.Refusals.{number_of, place_of};
 ghost use Rattle.day.specs.declared.records.Change.TheVariants as changes;
 ghost use Rattle.dayrun.specs.Changes.{Makes, Leaves, AnsweredBy, SettingMade, parts_amount, parts_rows, Under, Same, SameQuarter, SameEmergency, SameLosses, SameListed, SameLayers, Dropped};
+ghost use Rattle.dayrun.specs.Verdicts.{setting_checks, site_checks, change_checks, Grows, Judged};
+ghost use Rattle.numbers.specs.Checks.{Answered, Unambiguous};
 ghost use Rattle.quarters.specs.Quarters.{slices_of};
 
 use crate::answer::Answer;
@@ -23,7 +26,7 @@ use quarters::quarter::QuarterHour;
 use sharing::choice::RuleChoice;
 use sites::limits::MOST_UNITS;
 use sites::site::{Adders, Bus, Site, SiteUnit};
-use std::alloc::Global;
+use std::alloc::{AllocError, Global};
 
 // The settings of the layers.
 #[derive(Drop)]
@@ -62,12 +65,13 @@ impl Layers {
     fn set(&mut self, setting: Setting) -> Result<(), SettingRefusal>
         ensures made { OnOk result (SettingMade setting self.old self.new) }
         ensures unchanged { OnErr result (self.new ≡ self.old) }
+        ensures verdict { Answered (setting_checks setting self.old) number_of place_of (λ _. Unit {0}) result }
     {
         match setting {
-            Setting::Deny(resource) => self.denial.deny(u16::held(resource))?,
+            Setting::Deny(resource) => return self.denial.deny(u16::held(resource)),
             Setting::Undeny(resource) => self.denial.undeny(u16::held(resource)),
             Setting::Adjust(resource, figure) => {
-                self.adjustment.set(u16::held(resource), figure)?;
+                return self.adjustment.set(u16::held(resource), figure);
             }
             Setting::Unadjust(resource) => self.adjustment.remove(u16::held(resource)),
         }
@@ -167,7 +171,7 @@ impl Tables {
     }
 
     // Adds an emergency row, which stands under the slices in force.
-    fn add_emergency(&mut self, row: EmergencyRow) -> Result<(), NotDone>
+    fn add_emergency(&mut self, row: EmergencyRow) -> Result<(), AllocError>
         ensures made { OnOk result (Makes (changes.Emergency row) self.old self.new) }
         ensures left { OnErr result (Same self.old self.new) }
     {
@@ -187,7 +191,7 @@ impl Tables {
     }
 
     // Adds a bus of the next site.
-    fn add_bus(&mut self, bus: Bus) -> Result<(), NotDone>
+    fn add_bus(&mut self, bus: Bus) -> Result<(), AllocError>
         ensures made { OnOk result (Makes (changes.Bus bus) self.old self.new) }
         ensures left { OnErr result (Same self.old self.new) }
     {
@@ -211,6 +215,7 @@ impl Tables {
         ensures listed { OnOk result (self.new.listed.items ≡ self.old.listed.items ++ parts_rows rule self.old.quarter self.old.parts) }
         ensures told { IfOk result (λ site. (site.amount ≡ parts_amount self.old.quarter self.old.parts) × (site.rows ≡ length self.old.parts.units.items)) }
         ensures unchanged { OnErr result (SameListed self.old self.new) }
+        ensures verdict { Judged (site_checks self.old.quarter self.old.parts) (Unit {0}) result }
     {
         let nothing = ListedRow {
             resource: 0,
@@ -241,6 +246,7 @@ impl Tables {
         ensures told { IfOk result (λ site. (site.amount ≡ parts_amount self.old.quarter self.old.parts) × (site.rows ≡ length self.old.parts.units.items)) }
         ensures unchanged { OnErr result (SameListed self.old self.new) }
         ensures dropped { Dropped self.new.parts }
+        ensures verdict { Judged (site_checks self.old.quarter self.old.parts) (Unit {0}) result }
     {
         let settled = self.list_site(rule);
         self.parts.clear();
@@ -248,10 +254,13 @@ impl Tables {
     }
 
     // Makes a change.
+    #[tactic(auto, using(numbers::proofs::Checks::one_answer))]
     pub fn make(&mut self, change: Change) -> Result<Answer, NotDone>
         ensures made { OnOk result (Makes change self.old self.new) }
         ensures answer { IfOk result (AnsweredBy change self.old) }
         ensures left { OnErr result (Leaves change self.old self.new) }
+        ensures verdict { Judged (change_checks change self.old) (Grows change) result }
+        ensures once { Unambiguous (change_checks change self.old) }
     {
         match change {
             Change::Quarter(seconds) => self.quarter = QuarterHour::of(seconds.as_slice())?,
