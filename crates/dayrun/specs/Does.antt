@@ -9,18 +9,18 @@ use Rattle.curves.specs.declared.points.SubmittedCurve.{SubmittedCurve}
 use Rattle.day.specs.declared.records.Call.{Call}
 use Rattle.day.specs.declared.records.Call.TheVariants as calls
 use Rattle.day.specs.declared.records.Settlement.{Settlement}
-use Rattle.dayrun.specs.declared.answer.Answer.{Answer}
-use Rattle.dayrun.specs.declared.answer.Answer.TheVariants as answers
-use Rattle.dayrun.specs.declared.ledger.Ledger.{Ledger}
-use Rattle.dayrun.specs.declared.ledger.Mode.{Mode}
-use Rattle.dayrun.specs.declared.ledger.Mode.TheVariants as modes
-use Rattle.dayrun.specs.declared.ledger.Posted.{Posted}
-use Rattle.dayrun.specs.declared.notdone.Refused.{Refused as Refusing}
-use Rattle.dayrun.specs.declared.notdone.NotDone.{NotDone}
-use Rattle.dayrun.specs.declared.notdone.NotDone.TheVariants.{Malformed, Refused, Memory}
-use Rattle.dayrun.specs.declared.tables.Tables.{Tables}
-use Rattle.dayrun.specs.Calls.{asked, settled_lines, posted_over, type_in, DayEnergy, NotTaken}
-use Rattle.dayrun.specs.Told.{told_of}
+use Rattle.daybook.specs.declared.answer.Answer.{Answer}
+use Rattle.daybook.specs.declared.answer.Answer.TheVariants as answers
+use Rattle.daybook.specs.declared.ledger.Ledger.{Ledger}
+use Rattle.daybook.specs.declared.ledger.Mode.{Mode}
+use Rattle.daybook.specs.declared.ledger.Mode.TheVariants as modes
+use Rattle.daybook.specs.declared.ledger.Posted.{Posted}
+use Rattle.daybook.specs.declared.notdone.Refused.{Refused as Refusing}
+use Rattle.daybook.specs.declared.notdone.NotDone.{NotDone}
+use Rattle.daybook.specs.declared.notdone.NotDone.TheVariants.{Malformed, Refused, Memory}
+use Rattle.daybook.specs.declared.tables.Tables.{Tables}
+use Rattle.daybook.specs.Calls.{asked, settled_lines, posted_over, type_in, DayEnergy, NotTaken}
+use Rattle.daybook.specs.Told.{told_of}
 use Rattle.law.specs.Steps as law
 
 -- The book took the settlement, whose figures are answered; or it refused it. Where memory was short the run ends, and nothing is promised.

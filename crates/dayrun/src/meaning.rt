@@ -1,7 +1,7 @@
 // What a refusal means, in a sentence for the reader.
-use crate::notdone::Refused;
 use charges::fault::{Cause, Fault};
 use day::records::SourceName;
+use daybook::notdone::Refused;
 use emergency::row::Field as EmergencyField;
 use losses::row::Field as LossField;
 use std::fmt;

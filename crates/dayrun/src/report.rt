@@ -1,10 +1,10 @@
 // What is made of a day beside its answers.
-use crate::enrolled::Enrolled;
-use crate::ledger::{Ledger, Posted};
 use crate::meaning::TOTAL_MEANING;
-use crate::tables::Tables;
 use crate::teller::{Manner, Outlet, Teller};
 use day::records::{Settlement, SlotName};
+use daybook::enrolled::Enrolled;
+use daybook::ledger::{Ledger, Posted};
+use daybook::tables::Tables;
 use std::alloc::AllocError;
 
 pub trait Report {

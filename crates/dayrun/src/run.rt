@@ -1,24 +1,24 @@
 // Does the records of a text, one line after another.
 ghost use Rattle.std.specs.Prelude.{◌≡◌};
-ghost use Rattle.dayrun.specs.Calls.{type_in};
+ghost use Rattle.daybook.specs.Calls.{type_in};
 ghost use Rattle.dayrun.specs.Does.{DoesOr, DaySettles, Voids};
 ghost use Rattle.dayrun.specs.Reading.{IsRead};
 ghost use Rattle.law.specs.Steps.{void as voiding};
 
-use crate::answer::Answer;
 use crate::blocks::Blocks;
-use crate::enrolled::Enrolled;
-use crate::ledger::{Ledger, Mode};
 use crate::lines::{Line, Lines};
-use crate::notdone::NotDone;
 use crate::report::Report;
-use crate::tables::Tables;
 use crate::teller::{Outlet, Tally, Teller};
 use crate::words::Words;
 use book::rows::{Entry, Slot};
 use day::names::Name;
 use day::reading::{Scene, read};
 use day::records::{Call, PartyName, Record, Settlement, SlotName};
+use daybook::answer::Answer;
+use daybook::enrolled::Enrolled;
+use daybook::ledger::{Ledger, Mode};
+use daybook::notdone::NotDone;
+use daybook::tables::Tables;
 use std::alloc::Global;
 use std::io;
 use std::io::Read;

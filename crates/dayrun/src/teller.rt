@@ -1,10 +1,10 @@
 // Tells the answers: each is one line, which begins with the number of the record's line.
-use crate::answer::Answer;
-use crate::enrolled::Enrolled;
 use crate::meaning::{TALLY_MEANING, field_name, malformed_meaning, meaning};
-use crate::notdone::{NotDone, Refused};
 use crate::words::Words;
 use day::records::{SlotName, SourceName};
+use daybook::answer::Answer;
+use daybook::enrolled::Enrolled;
+use daybook::notdone::{NotDone, Refused};
 use std::alloc::{AllocError, Global};
 use std::{fmt, io};
 use text::answers::Answers;

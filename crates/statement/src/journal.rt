@@ -1,8 +1,8 @@
 // The standing settlements as a journal that plain-text accounting programs read: a transaction for each, in dollars.
 use crate::slots::{slot_at, slot_count, standing, type_name};
 use day::records::SlotName;
-use dayrun::enrolled::Enrolled;
-use dayrun::ledger::Ledger;
+use daybook::enrolled::Enrolled;
+use daybook::ledger::Ledger;
 use dayrun::report::Report;
 use dayrun::teller::{Manner, Outlet, Teller};
 use std::alloc::AllocError;

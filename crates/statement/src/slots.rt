@@ -4,7 +4,7 @@ ghost use Rattle.std.specs.Prelude.{◌≡◌, ◌+◌, ◌*◌, ◌/◌, ◌%�
 use assess::slots::ChargeType;
 use book::rows::Told;
 use day::records::SlotName;
-use dayrun::ledger::Ledger;
+use daybook::ledger::Ledger;
 
 // The slots by interval, and in an interval by type: the slot at a place, from 0.
 pub fn slot_at(place: u32) -> SlotName

@@ -2,10 +2,10 @@
 use crate::notes::Standing;
 use crate::slots::{slot_at, slot_count, standing, type_name};
 use day::records::{Settlement, SlotName};
-use dayrun::enrolled::Enrolled;
-use dayrun::ledger::{Ledger, Posted};
+use daybook::enrolled::Enrolled;
+use daybook::ledger::{Ledger, Posted};
+use daybook::tables::Tables;
 use dayrun::report::Report;
-use dayrun::tables::Tables;
 use dayrun::teller::{Manner, Outlet, Teller};
 use std::alloc::{AllocError, Global};
 

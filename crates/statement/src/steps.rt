@@ -3,7 +3,7 @@ use charges::listed::{Listed, ListedRow};
 use charges::reader::Reader;
 use curves::curve::Curve;
 use curves::points::{Point, SubmittedCurve};
-use dayrun::tables::Layers;
+use daybook::tables::Layers;
 use emergency::payment::Payment;
 use emergency::row::EmergencyRow;
 use losses::loss::Loss;
