@@ -6,8 +6,9 @@ use std::alloc::AllocError;
 pub mod items;
 
 pub struct BoundedList<T, const N: usize> {
-    slots: [T; N],
+    // Kept: before the slots, since behind them it is moved in one piece with the last slot, and a reader waits for both.
     count: usize,
+    slots: [T; N],
     ghost within: { count ≤ N },
 }
 

@@ -1,7 +1,7 @@
 -- Laws of a layer's table: where a resource is, and what a write to its place does.
-use Rattle.std.proofs.Common.{◌≡◌, ℕ, zero, suc, ◌+◌, ◌-◌, ◌<◌, ◌≤◌, Bool, true, false, cond, eqb, ltb, List, [], ◌∷◌, length, get_or, set, replicate, ℤ, pos, is_some, Some, None, MatchOption, count_by, find, position, take, Option, sym, refl, ap, ◌∙◌, subst, ◌⊎◌, inl, inr, ⊎_elim, arith, length-set, get_or-set_same, get_or-set_other}
+use Rattle.std.proofs.Common.{◌≡◌, ℕ, zero, suc, ◌+◌, ◌-◌, ◌<◌, ◌≤◌, Bool, true, false, cond, eqb, ltb, List, [], ◌∷◌, length, get_or, set, replicate, map, ◌==◌, ℤ, pos, is_some, Some, None, MatchOption, count_by, find, position, Option, sym, refl, ap, ◌∙◌, subst, ◌⊎◌, inl, inr, ⊎_elim, arith, length-set, get_or-set_same, get_or-set_other}
 use mathlib.Core.Path.{fun_ext}
-use Rattle.std.specs.List.{position_or_len, position_from}
+use Rattle.std.specs.List.{list_any, position_or_len, position_from}
 use Rattle.std.proofs.lemmas.Iterator.Adapters.{position_from-zero}
 use Rattle.std.specs.Option.{option_map, option_or}
 use Rattle.std.proofs.lemmas.List.Sums.{sum_by-set, sum_by-cons, count_by-le-length, get_or-le-sum_by}
@@ -13,7 +13,7 @@ use Rattle.std.proofs.lemmas.List.{get_or_default, get_or-replicate, length-repl
 use Rattle.charges.specs.declared.figure.Figure.{Figure}
 use Rattle.charges.specs.Refusals.{InRange}
 use Rattle.charges.specs.Settings.{changed}
-use Rattle.charges.specs.Table.{has_resource, is_free, figure_at, held_in, held_count, Once, Known, FreeFrom, place_for}
+use Rattle.charges.specs.Table.{has_resource, number_at, is_free, figure_at, held_in, held_count, Once, Known, FreeFrom, place_for}
 
 abbrev tick : Bool → ℕ
 tick b = cond b 1 0
@@ -262,18 +262,36 @@ size_less false after before e = omega arith
 pub same_map : (rows : List (Option Figure)) (r : ℕ) → held_in rows r ≡ None → held_in rows ≡ changed (held_in rows) r None
 same_map rows r none = fun_ext (λ k. ⊎_elim (λ same. rw (eq-eqb k r same, same) none) (λ ne. rw (ne_eqb k r ne)) (cases_eq k r))
 
--- a search ends where every place is free from there on
+-- nothing is held where every place is free
 all_free : (rows : List (Option Figure)) (r i : ℕ) → FreeFrom 0 rows → position_from (has_resource r) i rows ≡ None
 all_free [] r i free = refl
 all_free (x ∷ rows) r i free = rw (free 0 (omega arith)) (all_free rows r (i + 1) (λ k h. free (suc k) (omega arith)))
 
-from_before : (rows : List (Option Figure)) (n r i : ℕ) → FreeFrom n rows → position_from (has_resource r) i (take n rows) ≡ position_from (has_resource r) i rows
-from_before rows zero r i free = sym (all_free rows r i free)
-from_before [] (suc n) r i free = refl
-from_before (x ∷ rows) (suc n) r i free = rw (from_before rows n r (i + 1) (λ k h. free (suc k) (omega arith)))
+-- a resource has the same place among the numbers as among the rows
+numbered_from : (rows : List (Option Figure)) (r i : ℕ) → 1 ≤ r → position_from (λ n. n == r) i (map number_at rows) ≡ position_from (has_resource r) i rows
+numbered_from [] r i low = refl
+numbered_from (None ∷ rows) r i low = rw (ne_eqb 0 r (λ e. omega arith)) (numbered_from rows r (i + 1) low)
+numbered_from (Some held ∷ rows) r i low = rw (numbered_from rows r (i + 1) low)
 
-pub position_before : (rows : List (Option Figure)) (n r : ℕ) → FreeFrom n rows → position (has_resource r) (take n rows) ≡ position (has_resource r) rows
-position_before rows n r free = position_from-zero (has_resource r) (take n rows) ∙ from_before rows n r 0 free ∙ sym (position_from-zero (has_resource r) rows)
+pub position_numbered : (rows : List (Option Figure)) (r : ℕ) → 1 ≤ r → position (λ n. n == r) (map number_at rows) ≡ position (has_resource r) rows
+position_numbered rows r low = position_from-zero (λ n. n == r) (map number_at rows) ∙ numbered_from rows r 0 low ∙ sym (position_from-zero (has_resource r) rows)
+
+-- a resource is among the numbers where it is held
+pub any_numbered : (rows : List (Option Figure)) (r : ℕ) → 1 ≤ r → list_any (λ n. n == r) (map number_at rows) ≡ is_some (held_in rows r)
+any_numbered [] r low = refl
+any_numbered (None ∷ rows) r low = rw (ne_eqb 0 r (λ e. omega arith)) (any_numbered rows r low)
+any_numbered (Some held ∷ rows) r low = ⊎_elim (λ e. rw e) (λ e. rw e (any_numbered rows r low)) (cases_Bool (held.resource == r))
+
+-- resource 0 is held nowhere
+pub none_at_zero : (rows : List (Option Figure)) (r : ℕ) → Known rows → r ≡ 0 → position (has_resource r) rows ≡ None
+none_at_zero rows r known is = of (position (has_resource r) rows) refl
+  where
+    of : (o : Option ℕ) → position (has_resource r) rows ≡ o → o ≡ None
+    of None e = refl
+    of (Some i) e = let low = (own_known rows r i known e).0 in absurd (omega arith)
+
+pub none_among_free : (rows : List (Option Figure)) (r : ℕ) → FreeFrom 0 rows → position (has_resource r) rows ≡ None
+none_among_free rows r free = position_from-zero (has_resource r) rows ∙ all_free rows r 0 free
 
 pub none_free : (n : ℕ) → FreeFrom 0 (replicate n None)
 none_free zero i h = refl

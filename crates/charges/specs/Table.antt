@@ -9,6 +9,11 @@ abbrev pub has_resource : ℕ → Option Figure → Bool
 has_resource r None = false
 has_resource r (Some held) = held.resource == r
 
+-- the number of the resource at a place, 0 where it is free
+abbrev pub number_at : Option Figure → ℕ
+number_at None = 0
+number_at (Some held) = held.resource
+
 -- the figure at a place, if it holds one
 abbrev pub figure_at : Option Figure → Option ℤ
 figure_at row = option_map (λ held. held.figure) row

@@ -1,6 +1,6 @@
 // Up to 32 resources, each with a figure.
-ghost use Rattle.std.specs.Prelude.{◌≡◌, ◌≤◌, length};
-ghost use Rattle.charges.specs.Table.{Once, Known, FreeFrom};
+ghost use Rattle.std.specs.Prelude.{◌≡◌, ◌≤◌, length, map};
+ghost use Rattle.charges.specs.Table.{Once, Known, FreeFrom, number_at};
 
 use crate::figure::Figure;
 use crate::limits::PLACES;
@@ -14,9 +14,12 @@ pub mod settings;
 pub struct Table {
     // each place holds a figure, or is free
     rows: [Option<Figure>; PLACES],
-    // every place from here on is free, so that a search need go no further
+    // the resource at each place, 0 where it is free, so that a search reads these numbers alone
+    numbers: [u16; PLACES],
+    // every place from here on is free; where this is 0, nothing is held
     end: usize,
     ghost many: { length rows ≡ 32 },
+    ghost numbered: { numbers ≡ map number_at rows },
     ghost once: { Once rows },
     ghost known: { Known rows },
     ghost bound: { end ≤ 32 },

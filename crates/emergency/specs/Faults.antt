@@ -32,5 +32,5 @@ cause_of NoCurve = 40
 
 -- the field's number
 abbrev pub field_of : RowFault → ℕ
-field_of (Outside field) = number_of field
+field_of (Outside field) = field
 field_of NoCurve = 0

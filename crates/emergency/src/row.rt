@@ -79,8 +79,9 @@ impl fmt::Display for Field {
 // Why a row gives no payment.
 #[derive(Clone, Copy, PartialEq, Eq, Debug)]
 pub enum RowFault {
-    // a field is outside its limits: the first one
-    Outside(Field),
+    // a field is outside its limits: the first one, by its number
+    // Kept: the number, as the table of refusals tells it.
+    Outside(u8),
     // there is no curve for the resource and hour, or one that its checks refuse
     NoCurve,
 }
@@ -102,16 +103,16 @@ impl RowFault {
         ensures { result ≡ field_of self.now }
     {
         match self {
-            RowFault::Outside(field) => field.number(),
+            RowFault::Outside(field) => *field,
             RowFault::NoCurve => 0,
         }
     }
 }
 
 impl From<Field> for RowFault {
-    ghost from_gives = { λ first fault. fault ≡ Outside first };
+    ghost from_gives = { λ first fault. fault ≡ Outside (number_of first) };
 
     fn from(first: Field) -> RowFault {
-        RowFault::Outside(first)
+        RowFault::Outside(first.number())
     }
 }

@@ -34,7 +34,7 @@ points_for curves resource hour = option_and_then usable (submitted_for curves r
 
 -- the first field outside its limits comes first, then that there is no curve
 abbrev pub settled : Option Field → Option Payment → Result Payment RowFault
-settled (Some field) payment = Err (Outside field)
+settled (Some field) payment = Err (Outside (number_of field))
 settled None None = Err NoCurve
 settled None (Some payment) = Ok payment
 
@@ -44,7 +44,7 @@ payment_of seconds curves row = settled (bad_field (length seconds) row) (option
 
 -- a row's fault at line n
 abbrev pub fault_at : ℕ → RowFault → Fault
-fault_at n (Outside field) = fault_of causes.FieldOutside n (number_of field) Source
+fault_at n (Outside field) = fault_of causes.FieldOutside n field Source
 fault_at n NoCurve = fault_of causes.NoCurve n 0 Source
 
 -- the row as line n

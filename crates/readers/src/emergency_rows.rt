@@ -30,7 +30,7 @@ fn fault_at(n: usize, fault: RowFault) -> Fault
     ensures { result ≡ fault_at n fault }
 {
     match fault {
-        RowFault::Outside(field) => Fault::in_source(Cause::FieldOutside, n, field.number()),
+        RowFault::Outside(field) => Fault::in_source(Cause::FieldOutside, n, field),
         RowFault::NoCurve => Fault::in_source(Cause::NoCurve, n, 0),
     }
 }

@@ -1,8 +1,9 @@
 -- The front of a text whose bytes pass a test, cut off at the first byte that doesn't, and the blanks at its end.
-use Rattle.std.proofs.Common.{◌≡◌, ℕ, ◌+◌, ◌-◌, ◌<◌, Bool, true, false, cond, not, ◌&&◌, List, [], ◌∷◌, ◌++◌, length, get_or, take, drop, Some, None, Option, unwrap_or, sym, refl, ap, ◌∙◌, subst, one-add, arith}
+use Rattle.std.proofs.Common.{◌≡◌, ℕ, ◌+◌, ◌-◌, ◌<◌, ◌≤◌, Bool, true, false, cond, not, ◌&&◌, List, [], ◌∷◌, ◌++◌, length, get_or, take, drop, min, position, Some, None, Option, unwrap_or, sym, refl, ap, ◌∙◌, subst, one-add, arith}
 use Rattle.std.specs.List.{position_or_len}
 use Rattle.std.proofs.lemmas.Bool.{false_from_ne_true}
-use Rattle.std.proofs.lemmas.List.{take_more, take_all}
+use Rattle.std.proofs.lemmas.List.{take_more, take_all, get_or-take, length-take}
+use Rattle.std.proofs.lemmas.List.Quantifiers.{position-Some}
 use Rattle.std.proofs.lemmas.List.Sums.{position_or_len_is}
 use Rattle.memchr.specs.Find.{IsFirstByte, is_byte}
 use Rattle.text.specs.Text.{blank, front, past, every, trim_end}
@@ -25,6 +26,14 @@ module _ (inside ends : ℕ → Bool) (opposite : (c : ℕ) → not (ends c) ≡
 pub first_byte : (b : ℕ) (s : List ℕ) (r : Option ℕ) → IsFirstByte (is_byte b) s r → position_or_len (is_byte b) s ≡ unwrap_or r (length s)
 first_byte b s None none = position_or_len_is (is_byte b) s (length s) 0 (omega arith) (λ k lt. false_from_ne_true _ (none k (omega arith) lt)) (λ lt. absurd (omega arith))
 first_byte b s (Some k) at = position_or_len_is (is_byte b) s k 0 (omega (arith, at.0.high)) (λ j lt. false_from_ne_true _ (at.0.before j (omega arith) lt)) (λ _. at.1)
+
+-- it is the same byte where it is found in a front of the text
+pub near_byte : (b : ℕ) (s : List ℕ) (n k : ℕ) → position (is_byte b) (take n s) ≡ Some k → k ≡ position_or_len (is_byte b) s
+near_byte b s n k e =
+    let h = position-Some (is_byte b) (take n s) k 0 e in
+    let near : k < min n (length s) = subst (λ m. k < m) (length-take n s) h.0 in
+    let same : (j : ℕ) → j ≤ k → get_or (take n s) j 0 ≡ get_or s j 0 = λ j le. get_or-take n s j 0 (omega (arith, near)) in
+    sym (position_or_len_is (is_byte b) s k 0 (omega (arith, near)) (λ j lt. subst (λ c. is_byte b c ≡ false) (same j (omega arith)) (h.2 j lt)) (λ _. subst (λ c. is_byte b c ≡ true) (same k (omega arith)) h.1))
 
 -- the last byte of a text
 pub last_byte : (s : List ℕ) → 0 < length s → s ≡ take (length s - 1) s ++ get_or s (length s - 1) 0 ∷ []

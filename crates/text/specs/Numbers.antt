@@ -1,6 +1,6 @@
 -- The numbers that texts write.
 use Rattle.std.specs.Prelude.{◌≡◌, ℕ, ◌+◌, ◌-◌, ◌*◌, Bool, true, false, cond, not, ◌&&◌, ◌||◌, List, [], ◌∷◌, ℤ, pos, neg_ℤ, Some, None, Option, ◌==◌, nat_le, nat_lt}
-use Rattle.text.specs.Text.{every, front, past, until, and_then}
+use Rattle.text.specs.Text.{every, front, past, until, trim_end, and_then}
 
 -- a decimal digit
 abbrev pub digit : ℕ → Bool
@@ -29,10 +29,11 @@ pub record Leads (text : List ℕ) (value : ℕ) (rest : List ℕ) : Type 0 wher
 abbrev pub ends_number : ℕ → Bool
 ends_number c = not (digit c || c == 45)
 
--- What stands before the next byte `end`, or the text's end, is digits and nothing else; they write the value, and the rest follows them.
-pub record Plain (end : ℕ) (text : List ℕ) (value : ℕ) (rest : List ℕ) : Type 0 where
-  pub digits : every digit (front (until end) text) ≡ true
-  pub written : digits_in (front (until end) text) ≡ Some value
+-- What stands before the next byte `end`, or the text's end, is digits with blanks behind them at most; they write the value, and the rest
+-- follows.
+pub record Padded (end : ℕ) (text : List ℕ) (value : ℕ) (rest : List ℕ) : Type 0 where
+  pub digits : every digit (trim_end (front (until end) text)) ≡ true
+  pub written : digits_in (trim_end (front (until end) text)) ≡ Some value
   pub follows : rest ≡ past (until end) text
 
 -- A kind of number says which number a minus or none and a magnitude make, if any.

@@ -4,11 +4,15 @@ ghost use Rattle.std.specs.Fmt.{signed_decimal, AppendsText};
 ghost use Rattle.std.specs.Io.{WritesAtMost};
 ghost use Rattle.std.specs.Io.KnownBytes.{Keeps, WriteAppends};
 
+use arrayvec::ArrayString;
 use itoa::Buffer;
 use std::alloc::{AllocError, Global};
 use std::fmt::Display;
-use std::io;
 use std::io::Write;
+use std::{fmt, io};
+
+// How many bytes most lines have at most.
+const LINE: usize = 128;
 
 // A text of answers. What finds no memory leaves it as it is.
 #[derive(Drop)]
@@ -49,13 +53,20 @@ impl Answers {
         self.put(Buffer::new().format(z).as_bytes())
     }
 
-    // What `write!` and `writeln!` call. The words are made apart, so that the text stays where one of them finds no memory.
+    // What `write!` and `writeln!` call. The words are made apart, so that the text stays where one of them finds no memory: on the
+    // stack, if they are no longer than most lines.
     pub fn write_fmt<D: Display + Drop>(&mut self, words: D) -> Result<(), AllocError>
         ensures items { OnOk result (AppendsText self.old.text.items self.new.text.items (D.output words)) }
         ensures unchanged { OnErr result (self.new.text.items ≡ self.old.text.items) }
     {
-        let words = String::format(*self.text.allocator(), words)?;
-        self.put(words.as_bytes())
+        let mut line = ArrayString::<LINE>::new();
+        match fmt::Write::write_fmt(&mut line, &words) {
+            Ok(()) => self.put(line.as_bytes()),
+            Err(_) => {
+                let words = String::format(*self.text.allocator(), words)?;
+                self.put(words.as_bytes())
+            }
+        }
     }
 
     // Makes the text empty.

@@ -1,5 +1,7 @@
 // The fields of a line, read from the left.
-ghost use Rattle.std.specs.Prelude.{◌≡◌, true, [], count_by, length, is_some, Some, None, IfSome, MatchOption, ◌==◌};
+ghost use Rattle.std.specs.Prelude.{◌≡◌, true, [], count_by, length, is_some, Some, None, IfSome, MatchOption, ◌==◌, ◌≤◌};
+ghost use Rattle.std.specs.List.{position, position_or_len};
+ghost use Rattle.memchr.specs.Find.{is_byte};
 ghost use Rattle.text.specs.declared.fields.Fault.TheVariants.{Memory};
 ghost use Rattle.text.specs.Text.{front, past, until, trimmed, and_then};
 ghost use Rattle.text.specs.Numbers.{number_in, number_or_zero_in};
@@ -34,6 +36,9 @@ impl<T: Drop> From<AllocFailed<T>> for Fault {
     }
 }
 
+// How many bytes of a field or an item are searched one by one.
+const NEAR: usize = 16;
+
 // What is left of a line: nothing, or a comma with the next field behind it.
 #[derive(Clone, Copy)]
 pub struct Fields<'t> {
@@ -47,12 +52,31 @@ fn commas(line: &[u8]) -> usize
     line.iter().filter(|b| **b == b',').count()
 }
 
+// The place of the first `end` among the bytes.
+fn place_of(end: u8, bytes: &[u8]) -> Option<usize>
+    ensures { result ≡ position (is_byte end) bytes.now }
+{
+    bytes.iter().position(|b| *b == end)
+}
+
+// How many bytes stand before the first `end`, or how many there are. Most fields are short, so the search begins byte by byte.
+fn bytes_before(end: u8, text: &[u8]) -> usize
+    ensures value { result ≡ position_or_len (is_byte end) text.now }
+    ensures within { result ≤ length text.now }
+{
+    let near = &text[..text.len().min(NEAR)];
+    match place_of(end, near) {
+        Some(place) => place,
+        None => memchr(end, text).unwrap_or(text.len()),
+    }
+}
+
 // The text up to the next `END`, without the blanks around it, and what follows.
 pub(crate) fn first_text<const END: u8>(text: &[u8]) -> (&[u8], &[u8])
     ensures value { result.0.now ≡ trimmed (front (until END) text.now) }
     ensures rest { result.1.now ≡ past (until END) text.now }
 {
-    let end = memchr(END, text).unwrap_or(text.len());
+    let end = bytes_before(END, text);
     (blanks::trimmed(&text[..end]), &text[end..])
 }
 
@@ -90,7 +114,8 @@ impl<'t> Fields<'t> {
         Some(text)
     }
 
-    // The next field as a number, where it is digits with at most one minus before them. None where it wants a closer look: the field stays.
+    // The next field as a number, where it is digits with at most one minus before them and blanks around. None where it wants a closer
+    // look: the field stays.
     fn plain<T: Number>(&mut self) -> Option<T>
         ensures value { IfSome result (λ number. and_then (next_text self.old.rest.now) (number_in T.Number.kind) ≡ Some number) }
         ensures passes { Passes (is_some result) self.old.rest.now self.new.rest.now }

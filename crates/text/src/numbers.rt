@@ -1,7 +1,9 @@
 // The numbers that a text writes.
-ghost use Rattle.std.specs.Prelude.{◌≡◌, ℕ, Bool, true, false, is_some, Some, Option, IfSome, refl};
-ghost use Rattle.text.specs.Text.{front, past, until, trimmed};
-ghost use Rattle.text.specs.Numbers.{signed64, natural32, digits_in, number_in, Leads, ends_number, Plain};
+ghost use Rattle.std.specs.Prelude.{◌≡◌, ℕ, ◌<◌, Bool, true, false, length, get_or, is_some, Some, Option, IfSome, refl};
+ghost use Rattle.text.specs.Text.{blank, front, past, until, trimmed};
+ghost use Rattle.text.specs.Numbers.{signed64, natural32, digits_in, number_in, Leads, ends_number, Padded};
+
+use crate::blanks::after_blanks;
 
 // A kind of number.
 pub trait Number: Drop {
@@ -102,31 +104,66 @@ pub fn number_in<T: Number>(text: &[u8]) -> Option<T>
     }
 }
 
-// The number that the text up to the next `END` writes in digits and nothing else, and what follows. None where it wants a closer look.
-fn plain_digits<const END: u8>(text: &[u8]) -> Option<(u64, &[u8])>
-    requires { ends_number END ≡ true }
-    ensures { IfSome result (λ r. Plain END text.now r.0 r.1.now) }
+// What follows the blanks at the text's front. Few numbers have any, so it is kept out of the way of the others.
+#[inline(never)]
+fn past_blanks(text: &[u8]) -> &[u8]
+    ensures { result.now ≡ past blank text.now }
 {
-    let (value, rest) = leading(text)?;
-    match rest {
-        [byte, ..] if *byte != END => None,
-        _ => Some((value, rest)),
+    after_blanks(text)
+}
+
+// The text from its first byte on that is no blank.
+fn solid_front(text: &[u8]) -> &[u8]
+    ensures { result.now ≡ past blank text.now }
+{
+    if matches!(text, [b' ' | b'\t', ..]) {
+        past_blanks(text)
+    } else {
+        text
     }
 }
 
-// The same of digits with at most one minus before them, as a number.
+// What stands behind the blanks at the front of what is left, where it is `END` or nothing.
+fn end_behind_blanks<const END: u8>(left: &[u8]) -> Option<&[u8]>
+    requires { blank END ≡ false }
+    ensures { IfSome result (λ rest. (rest.now ≡ past blank left.now) × (0 < length rest.now → get_or rest.now 0 0 ≡ END)) }
+{
+    match left {
+        [] => Some(left),
+        [byte, ..] if *byte == END => Some(left),
+        _ => match past_blanks(left) {
+            [byte, ..] if *byte != END => None,
+            rest => Some(rest),
+        },
+    }
+}
+
+// The number that the text up to the next `END` writes in digits, with blanks behind them at most, and what follows. None where it
+// wants a closer look.
+fn plain_digits<const END: u8>(text: &[u8]) -> Option<(u64, &[u8])>
+    requires ends { ends_number END ≡ true }
+    requires solid { blank END ≡ false }
+    ensures { IfSome result (λ r. Padded END text.now r.0 r.1.now) }
+{
+    let (value, left) = leading(text)?;
+    Some((value, end_behind_blanks::<END>(left)?))
+}
+
+// The same of digits with at most one minus before them, and blanks before that, as a number.
 pub(crate) fn plain_number<T: Number, const END: u8>(text: &[u8]) -> Option<(T, &[u8])>
-    requires { ends_number END ≡ true }
+    requires ends { ends_number END ≡ true }
+    requires solid { blank END ≡ false }
     ensures value { IfSome result (λ r. number_in T.Number.kind (trimmed (front (until END) text.now)) ≡ Some r.0) }
     ensures rest { IfSome result (λ r. r.1.now ≡ past (until END) text.now) }
 {
-    match text.strip_prefix(b"-") {
+    let solid = solid_front(text);
+    match solid.strip_prefix(b"-") {
         Some(digits) => {
             let (magnitude, rest) = plain_digits::<END>(digits)?;
             Some((T::from_parts(true, magnitude)?, rest))
         }
         None => {
-            let (magnitude, rest) = plain_digits::<END>(text)?;
+            let (magnitude, rest) = plain_digits::<END>(solid)?;
             Some((T::from_parts(false, magnitude)?, rest))
         }
     }

@@ -86,3 +86,20 @@ fn answers_written(rt: HostRuntime) -> Result<(), Fail> {
     assert!(rt; out.text.as_slice() == b"12: emr at -7\n4294967295\n".as_slice());
     Ok(())
 }
+
+// Words that are as long as a line made on the stack may be, and longer ones.
+#[test]
+fn long_words_written(rt: HostRuntime) -> Result<(), Fail> {
+    let half = "0123456789 123456789 123456789 123456789 123456789 123456789 123";
+    let mut out = Answers::new(rt.alloc());
+    write!(out, "{half}{half}")?;
+    write!(out, "{half}{half};")?;
+    writeln!(out, "{}{half}{half}{half}", -5i64)?;
+    let mut expected = Answers::new(rt.alloc());
+    for words in [half, half, half, half, ";-5", half, half, half, "\n"] {
+        expected.put(words.as_bytes())?;
+    }
+    assert_eq!(rt; half.len(), 64);
+    assert!(rt; out.text.as_slice() == expected.text.as_slice());
+    Ok(())
+}

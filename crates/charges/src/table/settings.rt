@@ -1,5 +1,6 @@
 // What a table holds, and how that is changed.
-ghost use Rattle.std.specs.Prelude.{◌≡◌, ◌≤◌, is_some, IfSome, position, Decides, unsigned_abs};
+ghost use Rattle.std.specs.Prelude.{◌≡◌, ◌≤◌, is_some, IfSome, position, Decides, unsigned_abs, ◌==◌};
+ghost use Rattle.std.specs.List.{list_any};
 ghost use Rattle.charges.specs.Table.{has_resource, is_free, figure_at, place_for};
 ghost use Rattle.charges.specs.Refusals.{InRange};
 ghost use Rattle.charges.specs.Settings.{held_by, figure_in, nothing, size_of, WasSet, WasRemoved};
@@ -16,12 +17,22 @@ fn is_in_range(resource: u16, figure: i64) -> bool
     (1..=LAST_RESOURCE).contains(&resource) && figure.unsigned_abs() <= MOST_FIGURE
 }
 
-// The one of these places that holds the resource, if one does.
-fn place_among(rows: &[Option<Figure>], resource: u16) -> Option<usize>
-    ensures { result ≡ position (has_resource resource) rows.now }
+// Whether the resource is among the numbers. All of them are looked at, so that many are compared at once.
+fn is_among(numbers: &[u16; PLACES], resource: u16) -> bool
+    ensures { result ≡ list_any (λ n. n == resource) numbers.now }
 {
-    rows.iter()
-        .position(|row| row.is_some_and(|held| held.resource == resource))
+    let mut found = false;
+    for number in numbers {
+        found |= *number == resource;
+    }
+    found
+}
+
+// Where the resource stands first among the numbers, if it does.
+fn place_among(numbers: &[u16; PLACES], resource: u16) -> Option<usize>
+    ensures { result ≡ position (λ n. n == resource) numbers.now }
+{
+    numbers.iter().position(|number| *number == resource)
 }
 
 impl Table {
@@ -32,6 +43,7 @@ impl Table {
     {
         Table {
             rows: [None; PLACES],
+            numbers: [0; PLACES],
             end: 0,
         }
     }
@@ -40,7 +52,10 @@ impl Table {
     fn place(&self, resource: u16) -> Option<usize>
         ensures { result ≡ position (has_resource resource) self.now.rows }
     {
-        place_among(&self.rows[..self.end], resource)
+        if self.end == 0 || resource == 0 {
+            return None;
+        }
+        place_among(&self.numbers, resource)
     }
 
     // The first free place, if there is one.
@@ -78,7 +93,10 @@ impl Table {
     pub(crate) fn holds(&self, resource: u16) -> bool
         ensures { result ≡ is_some (held_by self.now resource) }
     {
-        self.held(resource).is_some()
+        if self.end == 0 || resource == 0 {
+            return false;
+        }
+        is_among(&self.numbers, resource)
     }
 
     // Holds a figure for the resource, in place of the one it had.
@@ -90,6 +108,7 @@ impl Table {
         }
         let place = self.place_for(resource).ok_or(SettingRefusal::Full)?;
         self.rows[place] = Some(Figure { resource, figure });
+        self.numbers[place] = resource;
         self.end = self.end.max(place + 1);
         Ok(())
     }
@@ -100,6 +119,7 @@ impl Table {
     {
         if let Some(place) = self.place(resource) {
             self.rows[place] = None;
+            self.numbers[place] = 0;
             if place + 1 == self.end {
                 self.end = place;
             }

@@ -45,12 +45,10 @@ fn in_order<F: Fn(Option<Point>, Point) -> bool>(points: &[Point], fits: F) -> R
     requires { F.IsAlwaysCallable fits }
     ensures { MatchResult result (λ _. AllFit (F.post fits) points.now) (Misfit (F.post fits) points.now) }
 {
-    let mut before = None;
     for (i, point) in points.iter().enumerate() {
-        if !fits(before, *point) {
+        if !fits(points[..i].last().copied(), *point) {
             return Err(i + 1);
         }
-        before = Some(*point);
     }
     Ok(())
 }

@@ -98,28 +98,23 @@ impl SoundRow<'_> {
             None
         }
     }
-
-    // The completed curve.
-    fn completion(&self) -> Curve
-        ensures { points_of result ≡ completed self.now.row.now }
-    {
-        let mut points = BoundedList::new(Point { power: 0, price: 0 });
-        put(&mut points, self.low_end());
-        put(&mut points, self.step_up());
-        points.extend_from_slice(self.row.listed());
-        put(&mut points, self.high_end());
-        Curve { points }
-    }
 }
 
 impl SubmittedCurve {
     // The curve that the row completes to, or why there is none.
+    // Kept: the list is filled here, since one that a function hands on is copied once more.
     #[tactic(auto, using(numbers::proofs::Checks::one_answer, crate::proofs::Acceptance::accepted_says))]
     pub fn complete(&self) -> Result<Curve, CurveRefusal>
         ensures answer { Answered (checks self.now) number_of place_of (λ curve. points_of curve ≡ completed self.now) result }
         ensures test { is_ok result ≡ accepted self.now }
         ensures once { Unambiguous (checks self.now) }
     {
-        Ok(SoundRow::of(self)?.completion())
+        let sound = SoundRow::of(self)?;
+        let mut points = BoundedList::new(Point { power: 0, price: 0 });
+        put(&mut points, sound.low_end());
+        put(&mut points, sound.step_up());
+        points.extend_from_slice(self.listed());
+        put(&mut points, sound.high_end());
+        Ok(Curve { points })
     }
 }

@@ -1,8 +1,9 @@
 use Rattle.std.proofs.Common.{◌≡◌, ℕ, None, Some, position, set, is_some, sym, refl, ap, ◌∙◌, inl, inr, ⊎_elim, arith}
+use Rattle.std.proofs.lemmas.List.{map-set}
 use Rattle.std.proofs.lemmas.Bool.{true≢false}
 use Rattle.charges.specs.declared.table.Table.{Table}
 use Rattle.charges.specs.Settings.{WasRemoved}
-use Rattle.charges.specs.Table.{has_resource, held_in, held_count}
+use Rattle.charges.specs.Table.{has_resource, number_at, held_in, held_count}
 use Rattle.charges.proofs.Places.{Wrote, own_place, own_held, own_known, no_place, written, known_written, free_cleared, size_less, same_map}
 use Rattle.charges.proofs.table.Table.remove.Goals as goal
 
@@ -41,6 +42,7 @@ invariant_of-self c =
     let within = (own_place t.rows c.args.resource i t.once at).within in
     record {
       many = w.many ∙ t.many;
+      numbered = ap (λ ns. set ns i 0) t.numbered ∙ sym (map-set number_at t.rows i None);
       once = w.once;
       known = known_written t.rows c.args.resource i None within tt t.known;
       bound = omega (arith, t.bound, c.if-place-self.true);
@@ -56,6 +58,7 @@ invariant_of-self-else-place-self c =
     let within = (own_place t.rows c.args.resource i t.once at).within in
     record {
       many = w.many ∙ t.many;
+      numbered = ap (λ ns. set ns i 0) t.numbered ∙ sym (map-set number_at t.rows i None);
       once = w.once;
       known = known_written t.rows c.args.resource i None within tt t.known;
       bound = t.bound;

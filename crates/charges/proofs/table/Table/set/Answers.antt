@@ -1,8 +1,9 @@
-use Rattle.std.proofs.Common.{◌≡◌, ℕ, true, ℤ, Some, None, Err, Decides, sym, refl, ap, ◌∙◌, subst, inl, inr, w64, SFits, to_z, of_z, arith}
+use Rattle.std.proofs.Common.{◌≡◌, ℕ, true, ℤ, Some, None, Err, Decides, sym, refl, ap, ◌∙◌, subst, inl, inr, w64, SFits, to_z, of_z, arith, set}
+use Rattle.std.proofs.lemmas.List.{map-set}
 use Rattle.std.proofs.lemmas.Int.{to_z-of_z}
 use Rattle.std.proofs.lemmas.Result.{err_from_is_err_and}
 use Rattle.charges.specs.Refusals.{InRange}
-use Rattle.charges.specs.Table.{place_for}
+use Rattle.charges.specs.Table.{number_at, place_for}
 use Rattle.charges.specs.declared.setting.SettingRefusal.TheVariants.{Full}
 use Rattle.charges.specs.Settings.{changed, held_by, WasSet}
 use Rattle.charges.proofs.Places.{set_place, set_full, written, known_written, free_written, size_more}
@@ -42,6 +43,7 @@ invariant_of-self c =
     let w = written t.rows c.args.resource c.in_ok-place.place (Some z) t.once place in
     record {
       many = w.many ∙ t.many;
+      numbered = ap (λ ns. set ns c.in_ok-place.place c.args.resource) t.numbered ∙ sym (map-set number_at t.rows c.in_ok-place.place _);
       once = w.once;
       known = known_written t.rows c.args.resource c.in_ok-place.place (Some z) place.within (c.if-not-is_in_range.ensures.0 refl) t.known;
       bound = omega (arith, t.bound, t.many, place.within, c.max-self.ensures);
