@@ -7,6 +7,7 @@ ghost use Rattle.directory.specs.Refusals.{number_of, place_of, count_check, for
 use crate::keyed::Keyed;
 use numbers::numbered::Numbered;
 use std::alloc::AllocError;
+use std::cmp::Ordering;
 
 // Records in strictly rising key order.
 pub struct Directory<'a, R: Keyed> {
@@ -125,13 +126,24 @@ impl<'a, R: Keyed> Directory<'a, R> {
     }
 
     // The place of the record with this key, counted from 1, or none where no record has it.
+    // Kept: a loop, which ends where it meets the record; `binary_search_by` goes on until one record is left.
     pub fn find(&self, key: &R::Key) -> Option<usize>
         ensures { Found R.Keyed.kind self.now.records.now (R.Keyed.sense key.now) result }
     {
-        let at = self
-            .records
-            .binary_search_by(|record| R::compare(&record.key(), key))
-            .ok()?;
-        Some(at + 1)
+        let mut rest = self.records;
+        let mut before = 0;
+        while let Some(middle) = rest.get(rest.len() / 2) {
+            let half = rest.len() / 2;
+            let at = before + half;
+            match R::compare(&middle.key(), key) {
+                Ordering::Equal => return Some(at + 1),
+                Ordering::Less => {
+                    rest = &rest[half + 1..];
+                    before = at + 1;
+                }
+                Ordering::Greater => rest = &rest[..half],
+            }
+        }
+        None
     }
 }
