@@ -38,7 +38,7 @@ module _ {R K : Type 0} (kind : Kind R K) (xs : List R) (up : Rising kind xs) wh
         let far = sorted_far _ (ranks_by (compared kind.order) kind.key_of) xs sorted (p - 1 + 1) (q - 1) d (omega arith) (omega arith) in
         both_ways _ (rw (at_q.2 d) at far) (rw (at_p.2 d) at next)
 
-    -- where the search ends at a record, that record alone has the key
+    -- a record that compares as equal has the key, and it alone
     found : (at : ℕ) → at < length xs → HoldsAt (λ x. cmp (kind.key_of x) key ≡ Equal) xs at → Found kind xs key (Some (at + 1))
     found at h equal =
         let back : at + 1 - 1 ≡ at = omega arith in
@@ -49,7 +49,7 @@ module _ {R K : Type 0} (kind : Kind R K) (xs : List R) (up : Rising kind xs) wh
     ranked : IsNonDecreasingBy (λ x. ordering_index (cmp (kind.key_of x) key)) xs
     ranked = searchable_from_sorted (compared kind.order) kind.key_of xs key sorted
 
-    -- a record that has the key stands at it
+    -- a record that has the key compares with it as equal, which counts as 1
     level : (p : ℕ) (d : R) → HasAt kind xs key p → ordering_index (cmp (kind.key_of (get_or xs (p - 1) d)) key) ≡ 1
     level p d has = rw (has.2 d) (ap ordering_index (tied_itself (compared kind.order) key))
 
@@ -63,7 +63,7 @@ module _ {R K : Type 0} (kind : Kind R K) (xs : List R) (up : Rising kind xs) wh
     before k d greater p has =
         ⊎_elim (λ lt. absurd (omega (arith, ranked k (p - 1) d (omega arith) (omega (arith, has.1)), level p d has, ap ordering_index greater))) (λ le. le) (cases_lt k p)
 
-    -- `rest` stands in the list behind as many records as are skipped, and every place of the key is in it
+    -- `rest` is a stretch of the list, behind the first `skipped` records, and every place of the key lies in it
     abbrev pub Narrowed : List R → ℕ → Type 0
     Narrowed rest skipped = (skipped + length rest ≤ length xs)
         × ((k : ℕ) (d : R) → k < length rest → get_or rest k d ≡ get_or xs (skipped + k) d)
